@@ -1,27 +1,47 @@
 -- The turns of a run are one trail.
-use Rattle.std.proofs.Common.{ℕ, ◌+◌, List, [], ◌∷◌, ◌++◌, refl, inl}
-use Rattle.tardis_base.specs.Plain.{PlainMachine, Answers}
-use Rattle.hub.specs.Turns.{Turn, Rested, Opened, Missed, TurnedAway, Received, Sent, Ended, KeptUp}
+use Rattle.std.proofs.Common.{◌≡◌, ℕ, ◌+◌, false, List, [], ◌∷◌, ◌++◌, ◌⊎◌, ◌∙◌, refl, sym, ap, subst, inl, inr}
+use Rattle.tardis_base.specs.Plain.{Event, PlainMachine, Answers, no_memory}
+use Rattle.hub.specs.Settlings.{PlainSettling, in_memory}
+use Rattle.hub.specs.Turns.{Turn, Rested, Opened, Missed, TurnedAway, Received, Sent, Ended, KeptUp, Settled}
 use Rattle.hub.specs.Runs.{close, Ran, Leads}
-use Rattle.hub.specs.Laws.{trail, requests_of}
+use Rattle.hub.specs.Laws.{IsSeenAs, trail, requests_of}
 use Rattle.hub.proofs.Serving.{answers_append}
 
--- the replies of one turn
-turn_answers : {S : Type 0} (m : PlainMachine S) (u : S) (turn : Turn) (t : S) → Leads m u turn t → (replies : List (List ℕ))
-    × Answers m u (requests_of turn) replies t
-turn_answers m u (Rested offer) t p = ([], p)
-turn_answers m u (Opened slot) t p = ([], p)
-turn_answers m u (Missed slot) t p = ([], p)
-turn_answers m u TurnedAway t p = ([], p)
-turn_answers m u (Received slot room came bodies replies) t p = (replies, p)
-turn_answers m u (Sent slot offered wrote bodies replies) t p = (replies, p)
-turn_answers m u (Ended slot) t p = (m.reply u (slot + 1, close) ∷ [], inl (refl, p))
-turn_answers m u (KeptUp bodies replies) t p = (replies, p)
+-- what answers events answers them as the machine that it is seen as
+answers_seen : {S P : Type 0} (w : PlainSettling S) (m : PlainMachine P) (shows : S → P) → IsSeenAs w m shows → (s : S) (es : List Event)
+    (ys : List (List ℕ)) (t : S) → Answers w.machine s es ys t → Answers m (shows s) es ys (shows t)
+answers_seen w m shows seen s [] [] t p = ap shows p
+answers_seen w m shows seen s (e ∷ es) (y ∷ ys) t p =
+    elim p as (λ _. ((y ≡ m.reply (shows s) e) × Answers m (m.step (shows s) e) es ys (shows t))
+    ⊎ ((y ≡ no_memory) × (m.is_sure e ≡ false) × Answers m (shows s) es ys (shows t))) [
+      | inl a ↦ inl (a.0 ∙ seen.reply s e, subst (λ u. Answers m u es ys (shows t)) (seen.step s e) (answers_seen w m shows seen (w.machine.step s e) es ys t a.1))
+      | inr b ↦ inr (b.0, sym (seen.is_sure e) ∙ b.1, answers_seen w m shows seen s es ys t b.2)
+    ]
+answers_seen w m shows seen s [] (y ∷ ys) t p = absurd p
+answers_seen w m shows seen s (e ∷ es) [] t p = absurd p
 
-pub one_trail : {S : Type 0} (m : PlainMachine S) (s t : S) (turns : List Turn) → Ran m s turns t → (replies : List (List ℕ))
-    × Answers m s (trail turns) replies t
-one_trail m s t [] p = ([], p)
-one_trail m s t (turn ∷ older) p =
-    let before = one_trail m s p.0 older p.1.0 in
-    let last = turn_answers m p.0 turn t p.1.1 in
-    (before.0 ++ last.0, answers_append m s (trail older) (requests_of turn) before.0 last.0 p.0 t before.1 last.1)
+-- the replies of one turn
+turn_answers : {S P : Type 0} (w : PlainSettling S) (m : PlainMachine P) (shows : S → P) → IsSeenAs w m shows → (u : S) (turn : Turn) (t : S) →
+    Leads w u turn t → (replies : List (List ℕ)) × Answers m (shows u) (requests_of turn) replies (shows t)
+turn_answers w m shows seen u (Rested offer) t p = ([], ap shows p)
+turn_answers w m shows seen u (Opened slot) t p = ([], ap shows p)
+turn_answers w m shows seen u (Missed slot) t p = ([], ap shows p)
+turn_answers w m shows seen u TurnedAway t p = ([], ap shows p)
+turn_answers w m shows seen u (Received slot room came bodies replies) t p = (replies, answers_seen w m shows seen u (requests_of (Received slot room came bodies replies)) replies t p)
+turn_answers w m shows seen u (Sent slot offered wrote bodies replies) t p =
+    (replies, answers_seen w m shows seen u (requests_of (Sent slot offered wrote bodies replies)) replies t p.1)
+turn_answers w m shows seen u (Ended slot) t p = (m.reply (shows u) (slot + 1, close) ∷ [], inl (refl, ap shows p ∙ seen.step u (slot + 1, close)))
+turn_answers w m shows seen u (KeptUp bodies replies) t p = (replies, answers_seen w m shows seen u (requests_of (KeptUp bodies replies)) replies t p)
+turn_answers w m shows seen u Settled t p = ([], ap shows p ∙ seen.settled u)
+
+pub one_trail : {S P : Type 0} (w : PlainSettling S) (m : PlainMachine P) (shows : S → P) → IsSeenAs w m shows → (s t : S) (turns : List Turn) →
+    Ran w s turns t → (replies : List (List ℕ)) × Answers m (shows s) (trail turns) replies (shows t)
+one_trail w m shows seen s t [] p = ([], ap shows p)
+one_trail w m shows seen s t (turn ∷ older) p =
+    let before = one_trail w m shows seen s p.0 older p.1.0 in
+    let last = turn_answers w m shows seen p.0 turn t p.1.1 in
+    (before.0 ++ last.0, answers_append m (shows s) (trail older) (requests_of turn) before.0 last.0 (shows p.0) (shows t) before.1 last.1)
+
+-- a machine in memory is seen as it is
+pub seen_in_memory : {S : Type 0} (m : PlainMachine S) → IsSeenAs (in_memory m) m (λ s. s)
+seen_in_memory m = record { step = λ s e. refl; reply = λ s e. refl; is_sure = λ e. refl; settled = λ s. refl }

@@ -3,7 +3,7 @@ use Rattle.std.proofs.Common.{◌≡◌, ℕ, ◌+◌, ◌<◌, ◌≤◌, false
 use Rattle.std.proofs.Common.{sym, ◌∙◌, subst, arith}
 use Rattle.std.proofs.lemmas.List.{append-nil, take-append-drop}
 use Rattle.std.proofs.lemmas.Bool.{cases_eq}
-use Rattle.tardis_base.specs.Plain.{PlainMachine}
+use Rattle.hub.specs.Settlings.{PlainSettling}
 use Rattle.frame_cut.specs.Frames.{Cuts, IsLong}
 use Rattle.tardis_base.specs.Sizes.{piece}
 use Rattle.hub.specs.declared.upkeeps.Tally.{Tally}
@@ -15,9 +15,10 @@ use Rattle.hub.specs.Answering.{Serves}
 use Rattle.hub.specs.Connections.{slots, ConnectionState, connection_at, OthersStay, IsStopped}
 use Rattle.hub.specs.Telling.{Tells}
 use Rattle.hub.specs.Talks.{Talk, no_talk, waits}
-use Rattle.hub.specs.Turns.{Turn, Rested, Opened, Missed, TurnedAway, Received, Sent, Ended, talk, more_of, MayRest, IsShut, HasNothing, WaitFew, WaitSoMany}
-use Rattle.hub.specs.Runs.{close}
-use Rattle.hub.specs.Keeping.{Fits, Keeps, Went, GoesOn}
+use Rattle.hub.specs.Turns.{Turn, Rested, Opened, Missed, TurnedAway, Received, Sent, Ended, Settled, talk, more_of, MayRest, IsShut, HasNothing, HasSome}
+use Rattle.hub.specs.Turns.{WaitFew, WaitSoMany}
+use Rattle.hub.specs.Runs.{close, Ran}
+use Rattle.hub.specs.Keeping.{Fits, Keeps, Settles, AreBefore, WentOn, IsToldBehind, GoesOn, Waits}
 use Rattle.hub.proofs.Holding.{waits_is, held_is, each_talk, none_of, fresh_connection, connection_more, fits_there}
 
 -- nothing more was told
@@ -26,205 +27,266 @@ tells_none None = tt
 tells_none (Some seen) = sym (append-nil seen)
 
 -- bytes came of a connection, and requests were answered
-received_at : {S : Type 0} (m : PlainMachine S) (from to : S → Type 0) (old new : List (Option ConnectionState)) (slot room : ℕ) (came : List ℕ)
+received_at : {S : Type 0} (w : PlainSettling S) (from to : S → Type 0) (old new : List (Option ConnectionState)) (slot room : ℕ) (came : List ℕ)
     (l k : ConnectionState) (tally next : Tally) (before after : Option (List Seen)) (s : S) (turns : List Turn) (o : Option Talk)
     → talk slot turns ≡ o → Fits o (Some l) → connection_at new slot ≡ Some k → OthersStay slot old new → length l.waiting ≤ piece → room ≡ piece
-    → Serves m from to (slot + 1) (l.cutter ++ came) k.cutter l.waiting k.waiting tally next → IsStopped k.long k.cutter k.waiting →
+    → Serves w.machine from to (slot + 1) (l.cutter ++ came) k.cutter l.waiting k.waiting tally next → IsStopped k.long k.cutter k.waiting →
     Tells before after (ReadFrom slot room came ∷ [])
-    → Keeps m from s old turns → Went m to s new turns (Read slot) tally next before after
-received_at m from to old new slot room came l k tally next before after s turns None e f is others few much serves stopped tells keeps = absurd f
-received_at m from to old new slot room came l k tally next before after s turns (Some t) e f is others few much serves stopped tells keeps =
+    → Keeps w from s old turns → WentOn w to s new turns tally next (IsToldBehind (Read slot) before after)
+received_at w from to old new slot room came l k tally next before after s turns None e f is others few much serves stopped tells keeps = absurd f
+received_at w from to old new slot room came l k tally next before after s turns (Some t) e f is others few much serves stopped tells keeps =
     let a = serves.answered keeps.state keeps.stands in
     let connection = connection_more t l k came [] l.waiting serves.bodies a.replies f refl serves.read a.put stopped in
     let here : Fits (more_of (talk slot turns) came [] serves.bodies a.replies) (connection_at new slot) =
     subst (λ z. Fits (more_of (talk slot turns) came [] serves.bodies a.replies) z) (sym is)
     (subst (λ z. Fits (more_of z came [] serves.bodies a.replies) (Some k)) (sym e) connection) in
     let fits = fits_there slot (λ n. more_of (talk n turns) came [] serves.bodies a.replies) (λ n. talk n turns) old new keeps.fits here others in
-    let few' : length (waits t) ≤ piece = subst (λ w. length w ≤ piece) (sym (waits_is t l.waiting f.given)) few in (
-      Received slot room came serves.bodies a.replies,
-      (
-        record {
-          state = a.state;
-          ran = (keeps.state, (keeps.ran, a.answers));
-          stands = a.stands;
-          served = (
-            (subst (λ z. WaitFew z) (sym e) few', much),
-            (λ n. each_talk (talk n (Received slot room came serves.bodies a.replies ∷ turns)) (connection_at new n) (fits n), keeps.served),
-          );
-          fits = fits;
-        },
-        (a.counts, (ReadFrom slot room came ∷ [], (refl, tells))),
-      ),
-    )
+    let few' : length (waits t) ≤ piece = subst (λ w. length w ≤ piece) (sym (waits_is t l.waiting f.given)) few in
+    record {
+      earlier = turns;
+      behind = inl refl;
+      turn = Received slot room came serves.bodies a.replies;
+      keeps = record {
+        state = a.state;
+        ran = (keeps.state, (keeps.ran, a.answers));
+        stands = a.stands;
+        served = (
+          (subst (λ z. WaitFew z) (sym e) few', much),
+          (λ n. each_talk (talk n (Received slot room came serves.bodies a.replies ∷ turns)) (connection_at new n) (fits n), keeps.served),
+        );
+        fits = fits;
+      };
+      noted = a.counts;
+      told = (ReadFrom slot room came ∷ [], (refl, tells));
+    }
 
-pub received : {S : Type 0} (m : PlainMachine S) (from to : S → Type 0) (old new : List (Option ConnectionState)) (slot room : ℕ) (came : List ℕ)
+pub received : {S : Type 0} (w : PlainSettling S) (from to : S → Type 0) (old new : List (Option ConnectionState)) (slot room : ℕ) (came : List ℕ)
     (l k : ConnectionState) (tally next : Tally) (before after : Option (List Seen))
     → connection_at old slot ≡ Some l → connection_at new slot ≡ Some k → OthersStay slot old new → length l.waiting ≤ piece → room ≡ piece
-    → Serves m from to (slot + 1) (l.cutter ++ came) k.cutter l.waiting k.waiting tally next → IsStopped k.long k.cutter k.waiting →
+    → Serves w.machine from to (slot + 1) (l.cutter ++ came) k.cutter l.waiting k.waiting tally next → IsStopped k.long k.cutter k.waiting →
     Tells before after (ReadFrom slot room came ∷ [])
-    → GoesOn m from to old new (Read slot) tally next before after
-received m from to old new slot room came l k tally next before after was is others few much serves stopped tells s turns keeps =
-    received_at m from to old new slot room came l k tally next before after s turns (talk slot turns) refl
+    → GoesOn w from to old new (Read slot) tally next before after
+received w from to old new slot room came l k tally next before after was is others few much serves stopped tells s turns keeps =
+    received_at w from to old new slot room came l k tally next before after s turns (talk slot turns) refl
     (subst (λ o. Fits (talk slot turns) o) was (keeps.fits slot)) is others few much serves stopped tells keeps
 
+-- what was owed is settled, or nothing was: the run goes on to where nothing is owed
+record Settling {S : Type 0} (w : PlainSettling S) (to : S → Type 0) (s : S) (connections : List (Option ConnectionState)) (turns : List Turn) : Type 0 where
+  earlier : List Turn
+  behind : AreBefore turns earlier
+  keeps : Keeps w to s connections earlier
+  is_settled : w.is_settled keeps.state
+
+settled_at : {S : Type 0} (w : PlainSettling S) (from mid : S → Type 0) (old : List (Option ConnectionState)) (s : S) (turns : List Turn)
+    (keeps : Keeps w from s old turns) → Settles w mid keeps.state → Settling w mid s old turns
+settled_at w from mid old s turns keeps settles = elim settles.same [
+  | inl none ↦ record {
+    earlier = turns;
+    behind = inl refl;
+    keeps = record {
+      state = settles.state;
+      ran = subst (λ t. Ran w s turns t) (sym none) keeps.ran;
+      stands = settles.stands;
+      served = keeps.served;
+      fits = keeps.fits;
+    };
+    is_settled = settles.is_settled;
+  }
+  | inr all ↦ record {
+    earlier = Settled ∷ turns;
+    behind = inr refl;
+    keeps = record {
+      state = settles.state;
+      ran = (keeps.state, (keeps.ran, all));
+      stands = settles.stands;
+      served = (tt, (λ n. each_talk (talk n turns) (connection_at old n) (keeps.fits n), keeps.served));
+      fits = keeps.fits;
+    };
+    is_settled = settles.is_settled;
+  }
+]
+
 -- a front of what waits was written to a connection, and requests were answered
-sent_at : {S : Type 0} (m : PlainMachine S) (from to : S → Type 0) (old new : List (Option ConnectionState)) (slot offered count : ℕ) (l k : ConnectionState)
-    (tally next : Tally) (before after : Option (List Seen)) (s : S) (turns : List Turn) (o : Option Talk)
-    → talk slot turns ≡ o → Fits o (Some l) → connection_at new slot ≡ Some k → OthersStay slot old new → offered ≡ length l.waiting
-    → Serves m from to (slot + 1) l.cutter k.cutter (drop count l.waiting) k.waiting tally next →
+sent_at : {S : Type 0} (w : PlainSettling S) (mid to : S → Type 0) (old new : List (Option ConnectionState)) (slot offered count : ℕ) (l k : ConnectionState)
+    (tally next : Tally) (before after : Option (List Seen)) (s : S) (before_it : List Turn) (o : Option Talk) (settling : Settling w mid s old before_it)
+    → talk slot settling.earlier ≡ o → Fits o (Some l) → connection_at new slot ≡ Some k → OthersStay slot old new → offered ≡ length l.waiting
+    → Serves w.machine mid to (slot + 1) l.cutter k.cutter (drop count l.waiting) k.waiting tally next →
     (IsStopped l.long l.cutter l.waiting → IsStopped k.long k.cutter k.waiting) → Tells before after (WroteTo slot offered (take count l.waiting) ∷ [])
-    → Keeps m from s old turns → Went m to s new turns (Write slot) tally next before after
-sent_at m from to old new slot offered count l k tally next before after s turns None e f is others all serves stopped tells keeps = absurd f
-sent_at m from to old new slot offered count l k tally next before after s turns (Some t) e f is others all serves stopped tells keeps =
-    let w : List ℕ = take count l.waiting in
+    → WentOn w to s new before_it tally next (IsToldBehind (Write slot) before after)
+sent_at w mid to old new slot offered count l k tally next before after s before_it None settling e f is others all serves stopped tells = absurd f
+sent_at w mid to old new slot offered count l k tally next before after s before_it (Some t) settling e f is others all serves stopped tells =
+    let wrote : List ℕ = take count l.waiting in
+    let turns = settling.earlier in
+    let keeps = settling.keeps in
     let a = serves.answered keeps.state keeps.stands in
     let cut : Cuts (l.cutter ++ []) serves.bodies k.cutter = subst (λ z. Cuts z serves.bodies k.cutter) (sym (append-nil l.cutter)) serves.read in
-    let connection = connection_more t l k [] w (drop count l.waiting) serves.bodies a.replies f (sym (take-append-drop count l.waiting)) cut a.put (stopped f.stopped) in
-    let here : Fits (more_of (talk slot turns) [] w serves.bodies a.replies) (connection_at new slot) =
-    subst (λ z. Fits (more_of (talk slot turns) [] w serves.bodies a.replies) z) (sym is)
-    (subst (λ z. Fits (more_of z [] w serves.bodies a.replies) (Some k)) (sym e) connection) in
-    let fits = fits_there slot (λ n. more_of (talk n turns) [] w serves.bodies a.replies) (λ n. talk n turns) old new keeps.fits here others in
-    let all' : offered ≡ length (waits t) = subst (λ z. offered ≡ length z) (sym (waits_is t l.waiting f.given)) all in (
-      Sent slot offered w serves.bodies a.replies,
-      (
-        record {
-          state = a.state;
-          ran = (keeps.state, (keeps.ran, a.answers));
-          stands = a.stands;
-          served = (
-            subst (λ z. WaitSoMany z offered) (sym e) all',
-            (λ n. each_talk (talk n (Sent slot offered w serves.bodies a.replies ∷ turns)) (connection_at new n) (fits n), keeps.served),
-          );
-          fits = fits;
-        },
-        (a.counts, (WroteTo slot offered w ∷ [], (refl, tells))),
-      ),
-    )
+    let connection = connection_more t l k [] wrote (drop count l.waiting) serves.bodies a.replies f (sym (take-append-drop count l.waiting)) cut a.put
+    (stopped f.stopped) in
+    let here : Fits (more_of (talk slot turns) [] wrote serves.bodies a.replies) (connection_at new slot) =
+    subst (λ z. Fits (more_of (talk slot turns) [] wrote serves.bodies a.replies) z) (sym is)
+    (subst (λ z. Fits (more_of z [] wrote serves.bodies a.replies) (Some k)) (sym e) connection) in
+    let fits = fits_there slot (λ n. more_of (talk n turns) [] wrote serves.bodies a.replies) (λ n. talk n turns) old new keeps.fits here others in
+    let all' : offered ≡ length (waits t) = subst (λ z. offered ≡ length z) (sym (waits_is t l.waiting f.given)) all in
+    record {
+      earlier = turns;
+      behind = settling.behind;
+      turn = Sent slot offered wrote serves.bodies a.replies;
+      keeps = record {
+        state = a.state;
+        ran = (keeps.state, (keeps.ran, (settling.is_settled, a.answers)));
+        stands = a.stands;
+        served = (
+          subst (λ z. WaitSoMany z offered) (sym e) all',
+          (λ n. each_talk (talk n (Sent slot offered wrote serves.bodies a.replies ∷ turns)) (connection_at new n) (fits n), keeps.served),
+        );
+        fits = fits;
+      };
+      noted = a.counts;
+      told = (WroteTo slot offered wrote ∷ [], (refl, tells));
+    }
 
-pub sent : {S : Type 0} (m : PlainMachine S) (from to : S → Type 0) (old new : List (Option ConnectionState)) (slot offered count : ℕ) (l k : ConnectionState)
-    (tally next : Tally) (before after : Option (List Seen))
+pub sent : {S : Type 0} (w : PlainSettling S) (from mid to : S → Type 0) (old new : List (Option ConnectionState)) (slot offered count : ℕ) (l k : ConnectionState)
+    (tally next : Tally) (before after : Option (List Seen)) → ((s : S) → from s → Settles w mid s)
     → connection_at old slot ≡ Some l → connection_at new slot ≡ Some k → OthersStay slot old new → offered ≡ length l.waiting
-    → Serves m from to (slot + 1) l.cutter k.cutter (drop count l.waiting) k.waiting tally next →
+    → Serves w.machine mid to (slot + 1) l.cutter k.cutter (drop count l.waiting) k.waiting tally next →
     (IsStopped l.long l.cutter l.waiting → IsStopped k.long k.cutter k.waiting) → Tells before after (WroteTo slot offered (take count l.waiting) ∷ [])
-    → GoesOn m from to old new (Write slot) tally next before after
-sent m from to old new slot offered count l k tally next before after was is others all serves stopped tells s turns keeps =
-    sent_at m from to old new slot offered count l k tally next before after s turns (talk slot turns) refl
-    (subst (λ o. Fits (talk slot turns) o) was (keeps.fits slot)) is others all serves stopped tells keeps
+    → GoesOn w from to old new (Write slot) tally next before after
+sent w from mid to old new slot offered count l k tally next before after settles was is others all serves stopped tells s turns keeps =
+    let settling = settled_at w from mid old s turns keeps (settles keeps.state keeps.stands) in
+    sent_at w mid to old new slot offered count l k tally next before after s turns (talk slot settling.earlier) settling refl
+    (subst (λ o. Fits (talk slot settling.earlier) o) was (settling.keeps.fits slot)) is others all serves stopped tells
+
+-- what was owed wasn't settled, and bytes wait
+pub waits_at : (o : Option Talk) (l : Option ConnectionState) → Fits o l → Waits l → HasSome o
+waits_at None None f more = more
+waits_at None (Some k) f more = f
+waits_at (Some t) None f more = absurd more
+waits_at (Some t) (Some k) f more = subst (λ z. 0 < length z) (sym (waits_is t k.waiting f.given)) more
 
 -- a connection came into a free slot
-pub opened : {S : Type 0} (m : PlainMachine S) (from to : S → Type 0) (old new : List (Option ConnectionState)) (slot : ℕ) (l : ConnectionState) (tally : Tally)
+pub opened : {S : Type 0} (w : PlainSettling S) (from to : S → Type 0) (old new : List (Option ConnectionState)) (slot : ℕ) (l : ConnectionState) (tally : Tally)
     (before after : Option (List Seen))
     → ((s : S) → from s → to s) → slot < slots → connection_at old slot ≡ None → connection_at new slot ≡ Some l → l ≡ record { cutter = []; waiting = []; long = false }
     → OthersStay slot old new → Tells before after (Accepted slot true ∷ [])
-    → GoesOn m from to old new Accept tally tally before after
-opened m from to old new slot l tally before after same within was is fresh others tells s turns keeps =
+    → GoesOn w from to old new Accept tally tally before after
+opened w from to old new slot l tally before after same within was is fresh others tells s turns keeps =
     let here : Fits (Some no_talk) (connection_at new slot) = subst (λ z. Fits (Some no_talk) z) (sym is) (fresh_connection l fresh) in
     let fits = fits_there slot (λ n. Some no_talk) (λ n. talk n turns) old new keeps.fits here others in
-    let free : talk slot turns ≡ None = none_of (talk slot turns) (subst (λ z. Fits (talk slot turns) z) was (keeps.fits slot)) in (
-      Opened slot,
-      (
-        record {
-          state = keeps.state;
-          ran = (keeps.state, (keeps.ran, refl));
-          stands = same keeps.state keeps.stands;
-          served = ((within, free), (λ n. each_talk (talk n (Opened slot ∷ turns)) (connection_at new n) (fits n), keeps.served));
-          fits = fits;
-        },
-        (refl, (Accepted slot true ∷ [], (refl, tells))),
-      ),
-    )
+    let free : talk slot turns ≡ None = none_of (talk slot turns) (subst (λ z. Fits (talk slot turns) z) was (keeps.fits slot)) in
+    record {
+      earlier = turns;
+      behind = inl refl;
+      turn = Opened slot;
+      keeps = record {
+        state = keeps.state;
+        ran = (keeps.state, (keeps.ran, refl));
+        stands = same keeps.state keeps.stands;
+        served = ((within, free), (λ n. each_talk (talk n (Opened slot ∷ turns)) (connection_at new n) (fits n), keeps.served));
+        fits = fits;
+      };
+      noted = refl;
+      told = (Accepted slot true ∷ [], (refl, tells));
+    }
 
 -- none came after all
-pub missed : {S : Type 0} (m : PlainMachine S) (from to : S → Type 0) (old new : List (Option ConnectionState)) (slot : ℕ) (tally : Tally)
+pub missed : {S : Type 0} (w : PlainSettling S) (from to : S → Type 0) (old new : List (Option ConnectionState)) (slot : ℕ) (tally : Tally)
     (before after : Option (List Seen))
     → ((s : S) → from s → to s) → new ≡ old → slot < slots → connection_at old slot ≡ None → Tells before after (Accepted slot false ∷ [])
-    → GoesOn m from to old new Accept tally tally before after
-missed m from to old new slot tally before after same unchanged within was tells s turns keeps =
+    → GoesOn w from to old new Accept tally tally before after
+missed w from to old new slot tally before after same unchanged within was tells s turns keeps =
     let fits : (n : ℕ) → Fits (talk n turns) (connection_at new n) = λ n. subst (λ z. Fits (talk n turns) (connection_at z n)) (sym unchanged) (keeps.fits n) in
-    let free : talk slot turns ≡ None = none_of (talk slot turns) (subst (λ z. Fits (talk slot turns) z) was (keeps.fits slot)) in (
-      Missed slot,
-      (
-        record {
-          state = keeps.state;
-          ran = (keeps.state, (keeps.ran, refl));
-          stands = same keeps.state keeps.stands;
-          served = ((within, free), (λ n. each_talk (talk n turns) (connection_at new n) (fits n), keeps.served));
-          fits = fits;
-        },
-        (refl, (Accepted slot false ∷ [], (refl, tells))),
-      ),
-    )
+    let free : talk slot turns ≡ None = none_of (talk slot turns) (subst (λ z. Fits (talk slot turns) z) was (keeps.fits slot)) in
+    record {
+      earlier = turns;
+      behind = inl refl;
+      turn = Missed slot;
+      keeps = record {
+        state = keeps.state;
+        ran = (keeps.state, (keeps.ran, refl));
+        stands = same keeps.state keeps.stands;
+        served = ((within, free), (λ n. each_talk (talk n turns) (connection_at new n) (fits n), keeps.served));
+        fits = fits;
+      };
+      noted = refl;
+      told = (Accepted slot false ∷ [], (refl, tells));
+    }
 
 -- a connection was turned away
-pub turned_away : {S : Type 0} (m : PlainMachine S) (from to : S → Type 0) (old new : List (Option ConnectionState)) (slot : ℕ) (tally : Tally)
+pub turned_away : {S : Type 0} (w : PlainSettling S) (from to : S → Type 0) (old new : List (Option ConnectionState)) (slot : ℕ) (tally : Tally)
     (before after : Option (List Seen))
     → ((s : S) → from s → to s) → new ≡ old → slot < slots → connection_at old slot ≡ None → Tells before after (Declined ∷ []) →
-    GoesOn m from to old new Accept tally tally before after
-turned_away m from to old new slot tally before after same unchanged within was tells s turns keeps =
+    GoesOn w from to old new Accept tally tally before after
+turned_away w from to old new slot tally before after same unchanged within was tells s turns keeps =
     let fits : (n : ℕ) → Fits (talk n turns) (connection_at new n) = λ n. subst (λ z. Fits (talk n turns) (connection_at z n)) (sym unchanged) (keeps.fits n) in
-    let free : talk slot turns ≡ None = none_of (talk slot turns) (subst (λ z. Fits (talk slot turns) z) was (keeps.fits slot)) in (
-      TurnedAway,
-      (
-        record {
-          state = keeps.state;
-          ran = (keeps.state, (keeps.ran, refl));
-          stands = same keeps.state keeps.stands;
-          served = ((slot, within, free), (λ n. each_talk (talk n turns) (connection_at new n) (fits n), keeps.served));
-          fits = fits;
-        },
-        (refl, (Declined ∷ [], (refl, tells))),
-      ),
-    )
+    let free : talk slot turns ≡ None = none_of (talk slot turns) (subst (λ z. Fits (talk slot turns) z) was (keeps.fits slot)) in
+    record {
+      earlier = turns;
+      behind = inl refl;
+      turn = TurnedAway;
+      keeps = record {
+        state = keeps.state;
+        ran = (keeps.state, (keeps.ran, refl));
+        stands = same keeps.state keeps.stands;
+        served = ((slot, within, free), (λ n. each_talk (talk n turns) (connection_at new n) (fits n), keeps.served));
+        fits = fits;
+      };
+      noted = refl;
+      told = (Declined ∷ [], (refl, tells));
+    }
 
 -- nothing was to do
-pub rested : {S : Type 0} (m : PlainMachine S) (from to : S → Type 0) (old new : List (Option ConnectionState)) (offer : Ready) (tally : Tally)
+pub rested : {S : Type 0} (w : PlainSettling S) (from to : S → Type 0) (old new : List (Option ConnectionState)) (offer : Ready) (tally : Tally)
     (before after : Option (List Seen))
     → ((s : S) → from s → to s) → ((n : ℕ) → connection_at new n ≡ connection_at old n) → after ≡ before →
     ((turns : List Turn) → ((n : ℕ) → Fits (talk n turns) (connection_at old n)) → MayRest turns offer)
-    → GoesOn m from to old new offer tally tally before after
-rested m from to old new offer tally before after same unchanged none may s turns keeps =
-    let fits : (n : ℕ) → Fits (talk n turns) (connection_at new n) = λ n. subst (λ z. Fits (talk n turns) z) (sym (unchanged n)) (keeps.fits n) in (
-      Rested offer,
-      (
-        record {
-          state = keeps.state;
-          ran = (keeps.state, (keeps.ran, refl));
-          stands = same keeps.state keeps.stands;
-          served = (may turns keeps.fits, (λ n. each_talk (talk n turns) (connection_at new n) (fits n), keeps.served));
-          fits = fits;
-        },
-        (refl, ([], (refl, subst (λ z. Tells before z []) (sym none) (tells_none before)))),
-      ),
-    )
+    → GoesOn w from to old new offer tally tally before after
+rested w from to old new offer tally before after same unchanged none may s turns keeps =
+    let fits : (n : ℕ) → Fits (talk n turns) (connection_at new n) = λ n. subst (λ z. Fits (talk n turns) z) (sym (unchanged n)) (keeps.fits n) in
+    record {
+      earlier = turns;
+      behind = inl refl;
+      turn = Rested offer;
+      keeps = record {
+        state = keeps.state;
+        ran = (keeps.state, (keeps.ran, refl));
+        stands = same keeps.state keeps.stands;
+        served = (may turns keeps.fits, (λ n. each_talk (talk n turns) (connection_at new n) (fits n), keeps.served));
+        fits = fits;
+      };
+      noted = refl;
+      told = ([], (refl, subst (λ z. Tells before z []) (sym none) (tells_none before)));
+    }
 
 -- a connection ended, and its session was closed
 some_of : (o : Option Talk) (l : ConnectionState) → Fits o (Some l) → IsSome o
 some_of None l f = absurd f
 some_of (Some t) l f = refl
 
-pub ended : {S : Type 0} (m : PlainMachine S) (from to : S → Type 0) (old new : List (Option ConnectionState)) (slot : ℕ) (l : ConnectionState) (tally : Tally)
+pub ended : {S : Type 0} (w : PlainSettling S) (from to : S → Type 0) (old new : List (Option ConnectionState)) (slot : ℕ) (l : ConnectionState) (tally : Tally)
     (before after : Option (List Seen))
-    → ((s : S) → from s → to (m.step s (slot + 1, close))) → connection_at old slot ≡ Some l → connection_at new slot ≡ None → OthersStay slot old new →
+    → ((s : S) → from s → to (w.machine.step s (slot + 1, close))) → connection_at old slot ≡ Some l → connection_at new slot ≡ None → OthersStay slot old new →
     Tells before after (Closed slot ∷ [])
-    → GoesOn m from to old new (Close slot) tally tally before after
-ended m from to old new slot l tally before after stepped was is others tells s turns keeps =
+    → GoesOn w from to old new (Close slot) tally tally before after
+ended w from to old new slot l tally before after stepped was is others tells s turns keeps =
     let here : Fits None (connection_at new slot) = subst (λ z. Fits None z) (sym is) tt in
-    let fits = fits_there slot (λ n. None) (λ n. talk n turns) old new keeps.fits here others in (
-      Ended slot,
-      (
-        record {
-          state = m.step keeps.state (slot + 1, close);
-          ran = (keeps.state, (keeps.ran, refl));
-          stands = stepped keeps.state keeps.stands;
-          served = (
-            some_of (talk slot turns) l (subst (λ z. Fits (talk slot turns) z) was (keeps.fits slot)),
-            (λ n. each_talk (talk n (Ended slot ∷ turns)) (connection_at new n) (fits n), keeps.served),
-          );
-          fits = fits;
-        },
-        (refl, (Closed slot ∷ [], (refl, tells))),
-      ),
-    )
+    let fits = fits_there slot (λ n. None) (λ n. talk n turns) old new keeps.fits here others in
+    record {
+      earlier = turns;
+      behind = inl refl;
+      turn = Ended slot;
+      keeps = record {
+        state = w.machine.step keeps.state (slot + 1, close);
+        ran = (keeps.state, (keeps.ran, refl));
+        stands = stepped keeps.state keeps.stands;
+        served = (
+          some_of (talk slot turns) l (subst (λ z. Fits (talk slot turns) z) was (keeps.fits slot)),
+          (λ n. each_talk (talk n (Ended slot ∷ turns)) (connection_at new n) (fits n), keeps.served),
+        );
+        fits = fits;
+      };
+      noted = refl;
+      told = (Closed slot ∷ [], (refl, tells));
+    }
 
 -- what may be left undone
 some_talk : (o : Option Talk) (l : Option ConnectionState) → Fits o l → IsSome l → IsSome o

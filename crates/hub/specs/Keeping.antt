@@ -1,18 +1,19 @@
 -- A run and the connections that it led to.
-use Rattle.std.specs.Prelude.{◌≡◌, ℕ, ◌-◌, ◌++◌, List, ◌∷◌, length, Option, Some, None}
-use Rattle.tardis_base.specs.Plain.{PlainMachine}
+use Rattle.std.specs.Prelude.{◌≡◌, ℕ, ◌<◌, ◌-◌, ◌++◌, List, [], ◌∷◌, length, Option, Some, None, ◌⊎◌}
 use Rattle.frame_cut.specs.Frames.{frames, Cuts}
 use Rattle.hub.specs.declared.upkeeps.Tally.{Tally}
 use Rattle.hub.specs.declared.ports.Ready.{Ready}
+use Rattle.hub.specs.declared.ports.Ready.TheVariants.{Write}
 use Rattle.hub.specs.declared.ports.Seen.{Seen}
 use Rattle.hub.specs.declared.ports.Seen.TheVariants.{Offered}
 use Rattle.hub.specs.Connections.{ConnectionState, connection_at, IsStopped}
+use Rattle.hub.specs.Settlings.{PlainSettling}
 use Rattle.hub.specs.Telling.{Tells}
 use Rattle.hub.specs.Talks.{Talk}
 use Rattle.hub.specs.Upkeeps.{UpkeepRule, noted}
-use Rattle.hub.specs.Turns.{Turn, Received, Sent, KeptUp, talk, calls_of, calls_in}
+use Rattle.hub.specs.Turns.{Turn, Received, Sent, KeptUp, Settled, talk, calls_of, calls_in}
 use Rattle.hub.specs.Timing.{since, AreTimely}
-use Rattle.hub.specs.Runs.{Ran, AreServed}
+use Rattle.hub.specs.Runs.{Ran, AreServed, count_of}
 
 -- the connection of a talk holds what came and wasn't asked yet, and what waits
 pub record IsConnectionOf (t : Talk) (l : ConnectionState) : Type 0 where
@@ -27,9 +28,9 @@ Fits None (Some l) = ⊥
 Fits (Some t) None = ⊥
 
 -- from s the turns led to a state that the value stands for, and to these connections
-pub record Keeps {S : Type 0} (m : PlainMachine S) (to : S → Type 0) (s : S) (connections : List (Option ConnectionState)) (turns : List Turn) : Type 0 where
+pub record Keeps {S : Type 0} (w : PlainSettling S) (to : S → Type 0) (s : S) (connections : List (Option ConnectionState)) (turns : List Turn) : Type 0 where
   pub state : S
-  pub ran : Ran m s turns state
+  pub ran : Ran w s turns state
   pub stands : to state
   pub served : AreServed turns
   pub fits : (n : ℕ) → Fits (talk n turns) (connection_at connections n)
@@ -39,6 +40,7 @@ abbrev pub IsNoted : Tally → Tally → Turn → Type 0
 IsNoted tally next (Received slot room came bodies replies) = next ≡ noted tally replies
 IsNoted tally next (Sent slot offered wrote bodies replies) = next ≡ noted tally replies
 IsNoted tally next (KeptUp bodies replies) = ⊥
+IsNoted tally next Settled = ⊥
 IsNoted tally next _ = next ≡ tally
 
 -- the tally after these turns
@@ -46,32 +48,62 @@ abbrev pub IsTally : Option UpkeepRule → Tally → List Turn → Type 0
 IsTally None tally turns = Unit {0}
 IsTally (Some rule) tally turns = tally ≡ record { code = rule.code; left = rule.after - since rule.code turns }
 
--- the run goes on by one turn, which began with this offer
-abbrev pub Went : {S : Type 0} → PlainMachine S → (S → Type 0) → S → List (Option ConnectionState) → List Turn → Ready → (tally next : Tally)
-    → (before after : Option (List Seen)) → Type 0
-Went m to s new turns offer tally next before after =
-    (turn : Turn) × (Keeps m to s new (turn ∷ turns) × (IsNoted tally next turn
-    × ((calls : List Seen) × ((calls_of turn ≡ Offered offer ∷ calls) × Tells before after calls))))
+-- from s nothing was owed, or what was owed was settled; and the value stands for the state that was reached
+pub record Settles {S : Type 0} (w : PlainSettling S) (to : S → Type 0) (s : S) : Type 0 where
+  pub state : S
+  pub same : (state ≡ s) ⊎ (state ≡ w.settled s)
+  pub is_settled : w.is_settled state
+  pub stands : to state
 
--- so does whatever run led here, once the offer was made
-abbrev pub GoesOn : {S : Type 0} → PlainMachine S → (from to : S → Type 0) → (old new : List (Option ConnectionState)) → Ready → (tally next : Tally)
+-- the turns before the next one: all that were made, or with a settling more
+abbrev pub AreBefore : (turns earlier : List Turn) → Type 0
+AreBefore turns earlier = (earlier ≡ turns) ⊎ (earlier ≡ Settled ∷ turns)
+
+-- the run went on by one turn, of which this was told
+pub record WentOn {S : Type 0} (w : PlainSettling S) (to : S → Type 0) (s : S) (new : List (Option ConnectionState)) (turns : List Turn)
+    (tally next : Tally) (Told : Turn → Type 0) : Type 0 where
+  pub earlier : List Turn
+  pub behind : AreBefore turns earlier
+  pub turn : Turn
+  pub keeps : Keeps w to s new (turn ∷ earlier)
+  pub noted : IsNoted tally next turn
+  pub told : Told turn
+
+-- the turn began with this offer, and the rest of its calls was told
+abbrev pub IsToldBehind : Ready → (before after : Option (List Seen)) → Turn → Type 0
+IsToldBehind offer before after turn = (calls : List Seen) × ((calls_of turn ≡ Offered offer ∷ calls) × Tells before after calls)
+
+abbrev pub IsTold : (before after : Option (List Seen)) → Turn → Type 0
+IsTold before after turn = Tells before after (calls_of turn)
+
+-- whatever run led here, it goes on by one turn, once the offer was made
+abbrev pub GoesOn : {S : Type 0} → PlainSettling S → (from to : S → Type 0) → (old new : List (Option ConnectionState)) → Ready → (tally next : Tally)
     → (before after : Option (List Seen)) → Type 0
-GoesOn m from to old new offer tally next before after = (s : _) (turns : List Turn) → Keeps m from s old turns
-    → Went m to s new turns offer tally next before after
+GoesOn w from to old new offer tally next before after = (s : _) (turns : List Turn) → Keeps w from s old turns
+    → WentOn w to s new turns tally next (IsToldBehind offer before after)
 
 -- whatever run led here, it went on by one turn
-abbrev pub Turned : {S : Type 0} → PlainMachine S → (from to : S → Type 0) → (old new : List (Option ConnectionState)) → (tally next : Tally)
+abbrev pub Turned : {S : Type 0} → PlainSettling S → (from to : S → Type 0) → (old new : List (Option ConnectionState)) → (tally next : Tally)
     → (before after : Option (List Seen)) → Type 0
-Turned m from to old new tally next before after =
-    (s : _) (turns : List Turn) → Keeps m from s old turns → (turn : Turn)
-    × (Keeps m to s new (turn ∷ turns) × (IsNoted tally next turn × Tells before after (calls_of turn)))
+Turned w from to old new tally next before after = (s : _) (turns : List Turn) → Keeps w from s old turns
+    → WentOn w to s new turns tally next (IsTold before after)
+
+-- bytes wait for the connection in the slot
+abbrev pub Waits : Option ConnectionState → Type 0
+Waits None = ⊥
+Waits (Some l) = 0 < length l.waiting
+
+-- What was owed couldn't be settled: all is as before, and of the edge's offer to write nothing was done.
+abbrev pub IsUnsettled : {S : Type 0} → (from to : S → Type 0) → (old : List (Option ConnectionState)) → (before after : Option (List Seen)) → Type 0
+IsUnsettled from to old before after =
+    ((s : _) → from s → to s) × ((slot : ℕ) × (Waits (connection_at old slot) × Tells before after (Offered (Write slot) ∷ [])))
 
 -- from s so many turns led here, the edge told them, and upkeep was made whenever it was due
-pub record Led {S : Type 0} (m : PlainMachine S) (rule : Option UpkeepRule) (to : S → Type 0) (s : S) (connections : List (Option ConnectionState)) (tally : Tally)
+pub record Led {S : Type 0} (w : PlainSettling S) (rule : Option UpkeepRule) (to : S → Type 0) (s : S) (connections : List (Option ConnectionState)) (tally : Tally)
     (before after : Option (List Seen)) (count : ℕ) : Type 0 where
   pub turns : List Turn
-  pub keeps : Keeps m to s connections turns
+  pub keeps : Keeps w to s connections turns
   pub seen : Tells before after (calls_in turns)
-  pub many : length turns ≡ count
+  pub many : count_of turns ≡ count
   pub timely : AreTimely rule turns
   pub tallied : IsTally rule tally turns

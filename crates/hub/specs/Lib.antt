@@ -1,4 +1,5 @@
 -- What a hub answers, what each of its connections has of it, and what its edge sees.
+pub mod Settlings
 pub mod Upkeeps
 pub mod Answering
 pub mod Connections

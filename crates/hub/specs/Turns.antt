@@ -12,7 +12,7 @@ use Rattle.hub.specs.Talks.{Talk, no_talk, more_talk, held, waits}
 -- Nothing was done of what was offered; a connection came into a slot, or none came after all, or it was turned away for
 -- want of memory; bytes came of one, or a front of what waits was written to it, and requests were answered by these
 -- replies; or it ended, and its session was closed. Or the hub itself asked requests, and they were answered by these
--- replies.
+-- replies; or what was answered before was settled, so that bytes could be written.
 pub data Turn : Type 0 where
   Rested : (offer : Ready) → Turn
   Opened : (slot : ℕ) → Turn
@@ -22,8 +22,9 @@ pub data Turn : Type 0 where
   Sent : (slot offered : ℕ) → (wrote : List ℕ) → (bodies replies : List (List ℕ)) → Turn
   Ended : (slot : ℕ) → Turn
   KeptUp : (bodies replies : List (List ℕ)) → Turn
+  Settled : Turn
 
--- what the edge sees of a turn: its offer, and the call that was made; nothing of what the hub asks itself
+-- what the edge sees of a turn: its offer, and the call that was made; nothing of what the hub asks itself or settles
 abbrev pub calls_of : Turn → List Seen
 calls_of (Rested offer) = Offered offer ∷ []
 calls_of (Opened slot) = Offered Accept ∷ Accepted slot true ∷ []
@@ -33,6 +34,7 @@ calls_of (Received slot room came bodies replies) = Offered (Read slot) ∷ Read
 calls_of (Sent slot offered wrote bodies replies) = Offered (Write slot) ∷ WroteTo slot offered wrote ∷ []
 calls_of (Ended slot) = Offered (Close slot) ∷ Closed slot ∷ []
 calls_of (KeptUp bodies replies) = []
+calls_of Settled = []
 
 -- what it sees of turns, of which the newest is first
 abbrev pub calls_in : List Turn → List Seen
@@ -58,6 +60,7 @@ talk_after n (Received slot room came bodies replies) old = there (n == slot) (m
 talk_after n (Sent slot offered wrote bodies replies) old = there (n == slot) (more_of old [] wrote bodies replies) old
 talk_after n (Ended slot) old = there (n == slot) None old
 talk_after n (KeptUp bodies replies) old = old
+talk_after n Settled old = old
 
 -- what the connection that has slot n has of the turns, since it came
 abbrev pub talk : ℕ → List Turn → Option Talk
@@ -72,6 +75,10 @@ IsShut (Some t) = (piece < length (waits t)) ⊎ ((len : ℕ) × IsLong (held t)
 abbrev pub HasNothing : Option Talk → Type 0
 HasNothing None = Unit {0}
 HasNothing (Some t) = waits t ≡ []
+
+abbrev pub HasSome : Option Talk → Type 0
+HasSome None = ⊥
+HasSome (Some t) = 0 < length (waits t)
 
 -- nothing may be done of an offer only where there is nothing to do
 abbrev pub MayRest : List Turn → Ready → Type 0
@@ -105,3 +112,4 @@ IsRight older (Received slot room came bodies replies) = WaitFew (talk slot olde
 IsRight older (Sent slot offered wrote bodies replies) = WaitSoMany (talk slot older) offered
 IsRight older (Ended slot) = IsSome (talk slot older)
 IsRight older (KeptUp bodies replies) = Unit {0}
+IsRight older Settled = Unit {0}

@@ -11,13 +11,14 @@ ghost use Rattle.hub.specs.Runs.{close};
 use crate::upkeeps::Tally;
 use crate::waitings::Waiting;
 use frame_cut::{Cut, FrameCutter};
-use tardis_base::{Machine, NO_MEMORY, NoMemory, PIECE, ReplyBuf};
+use rest_machine::Settling;
+use tardis_base::{NO_MEMORY, NoMemory, PIECE, ReplyBuf};
 
 /// The request that closes a session.
 const CLOSE: [u8; 1] = [21];
 
 /// Answers the requests that are held, until much waits. Answers whether the frame that is next is too long.
-pub(crate) fn answer_held<M: Machine>(
+pub(crate) fn answer_held<M: Settling>(
     machine: &mut M,
     actor: u16,
     cutter: &mut FrameCutter,
@@ -40,7 +41,7 @@ pub(crate) fn answer_held<M: Machine>(
 }
 
 /// Answers one request. Where the machine finds no memory the reply says so.
-pub(crate) fn answer_body<M: Machine>(
+pub(crate) fn answer_body<M: Settling>(
     machine: &mut M,
     actor: u16,
     body: &[u8],
@@ -71,7 +72,7 @@ fn put_reply(reply: &[u8], waiting: &mut Waiting, tally: &mut Tally)
 }
 
 /// Closes the session of the actor, and leaves the reply.
-pub(crate) fn close_session<M: Machine>(machine: &mut M, actor: u16, reply: &mut ReplyBuf)
+pub(crate) fn close_session<M: Settling>(machine: &mut M, actor: u16, reply: &mut ReplyBuf)
     requires { M.plain.is_sure (actor, close) ≡ true }
     ensures stepped { (s : M.Plain) → M.stands machine.old s → M.stands machine.new (M.plain.step s (actor, close)) }
     ensures opening { M.opening machine.new ≡ M.opening machine.old }

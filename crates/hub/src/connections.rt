@@ -9,9 +9,10 @@ use crate::answers::answer_held;
 use crate::upkeeps::Tally;
 use crate::waitings::Waiting;
 use frame_cut::FrameCutter;
+use rest_machine::Settling;
 use std::alloc::Global;
 use std::marker::Model;
-use tardis_base::{Machine, NoMemory, PIECE, ReplyBuf};
+use tardis_base::{NoMemory, PIECE, ReplyBuf};
 
 /// A connection's bytes: those that came and aren't answered, those that wait to be written, and whether the frame that
 /// is next is too long. It is seen as these.
@@ -57,7 +58,7 @@ impl Connection {
     }
 
     /// Takes a piece that came of the connection, and answers the requests that it completes.
-    pub(crate) fn receive<M: Machine>(
+    pub(crate) fn receive<M: Settling>(
         &mut self,
         machine: &mut M,
         actor: u16,
@@ -85,7 +86,7 @@ impl Connection {
     }
 
     /// Forgets bytes that were written to the connection, and answers requests that were held.
-    pub(crate) fn sent<M: Machine>(
+    pub(crate) fn sent<M: Settling>(
         &mut self,
         machine: &mut M,
         actor: u16,

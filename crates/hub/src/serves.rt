@@ -3,15 +3,17 @@
 ghost use Rattle.std.specs.Prelude.{◌≡◌, ◌<◌, ℕ, ◌+◌, true, None, length, option_map, IfOk, IfSome, OnErr};
 ghost use Rattle.tardis_base.specs.Sizes.{piece};
 ghost use Rattle.hub.specs.Connections.{connection_at, slots};
+ghost use Rattle.hub.specs.Settlings.{settling};
 ghost use Rattle.hub.specs.Upkeeps.{rule_of};
 ghost use Rattle.hub.specs.Runs.{close, IsRun};
 
 use crate::connections::Connection;
 use crate::ports::Ports;
-use crate::turns::{SLOTS, turn};
+use crate::turns::{Outcome, SLOTS, turn};
 use crate::upkeeps::{Tally, Upkeep, keep_up};
+use rest_machine::Settling;
 use std::alloc::Global;
-use tardis_base::{Machine, NoMemory, PIECE, ReplyBuf};
+use tardis_base::{NoMemory, PIECE, ReplyBuf};
 
 /// Why a hub ended.
 #[derive(Clone, Copy, PartialEq, Eq)]
@@ -20,6 +22,8 @@ pub enum End {
     Stopped,
     /// It made 18,446,744,073,709,551,615 turns, with those of the upkeep.
     Spent,
+    /// What was answered couldn't be settled, so nothing more was told.
+    Unsettled,
 }
 
 /// Serves the connections of an edge: each in a slot of 256, its requests those of the actor that is the slot's number
@@ -30,13 +34,17 @@ pub enum End {
 /// costs the others nothing. When a connection ends its session is closed, whatever was open in it. The edge is shown the
 /// connections at each turn, and has to end a connection whose frame that is next is too long.
 ///
+/// Before bytes are written to a connection the machine settles what it owes, once for all that was answered meanwhile, so
+/// an edge that offers all reads before the writes has one settling for them all. Where settling fails the hub ends at once,
+/// and writes nothing more to anybody. Settling isn't counted as a turn.
+///
 /// An upkeep is made between two turns, as soon as it is due, and counts as a turn. Where it is due when the edge would say
 /// stop, it is made before that is asked.
 ///
 /// A turn's cost doesn't grow with the connections, but for a search of the slots when one comes. The buffers of the hub
 /// are taken first; without memory for them nothing is done. A connection's are taken when it comes, and one for which
 /// there is no memory is turned away.
-pub fn serve<M: Machine, P: Ports>(
+pub fn serve<M: Settling, P: Ports>(
     alloc: Global,
     machine: &mut M,
     ports: &mut P,
@@ -45,7 +53,8 @@ pub fn serve<M: Machine, P: Ports>(
     requires often { IfSome (option_map rule_of upkeep) (λ rule. 0 < rule.after) }
     requires sure { (n : ℕ) → n < slots → M.plain.is_sure (n + 1, close) ≡ true }
     ensures served { IfOk result (λ end. (s : M.Plain) → M.stands machine.old s
-        → IsRun M.plain (option_map rule_of upkeep.entry) (M.stands machine.new) s end (P.seen ports.old) (P.seen ports.new)) }
+        → IsRun (settling M.plain M.is_settled M.settled) (option_map rule_of upkeep.entry) (M.stands machine.new) s end (P.seen ports.old) (P.seen ports.new)) }
+    ensures unsettled { IfOk result (λ end. end ≡ End.Unsettled → 0 < M.faults machine.new) }
     ensures nothing { OnErr result ((machine.new ≡ machine.old) × (ports.new ≡ ports.old)) }
     ensures opening { M.opening machine.new ≡ M.opening machine.old }
 {
@@ -66,7 +75,7 @@ pub fn serve<M: Machine, P: Ports>(
 }
 
 /// Makes turns until the edge says stop, and upkeep between them.
-fn serve_connections<M: Machine, P: Ports>(
+fn serve_connections<M: Settling, P: Ports>(
     alloc: Global,
     machine: &mut M,
     connections: &mut [Option<Connection>],
@@ -80,7 +89,8 @@ fn serve_connections<M: Machine, P: Ports>(
     requires room { length buf.old ≡ piece }
     requires sure { (n : ℕ) → n < slots → M.plain.is_sure (n + 1, close) ≡ true }
     ensures served { (s : M.Plain) → M.stands machine.old s
-        → IsRun M.plain (option_map rule_of upkeep.entry) (M.stands machine.new) s result (P.seen ports.old) (P.seen ports.new) }
+        → IsRun (settling M.plain M.is_settled M.settled) (option_map rule_of upkeep.entry) (M.stands machine.new) s result (P.seen ports.old) (P.seen ports.new) }
+    ensures unsettled { result ≡ End.Unsettled → 0 < M.faults machine.new }
     ensures opening { M.opening machine.new ≡ M.opening machine.old }
 {
     let mut tally = Tally::whole(upkeep);
@@ -92,11 +102,11 @@ fn serve_connections<M: Machine, P: Ports>(
                 keep_up(machine, requests, reply);
                 tally = Tally::whole(upkeep);
             }
-            None => {
-                if !turn(alloc, machine, connections, ports, buf, reply, &mut tally) {
-                    return End::Stopped;
-                }
-            }
+            None => match turn(alloc, machine, connections, ports, buf, reply, &mut tally) {
+                Outcome::On => {}
+                Outcome::Stopped => return End::Stopped,
+                Outcome::Unsettled => return End::Unsettled,
+            },
         }
     }
     End::Spent

@@ -1,11 +1,12 @@
 //! The turns of a hub: what is done of what the edge offers.
 
-ghost use Rattle.std.specs.Prelude.{◌≡◌, ◌<◌, ℕ, ◌+◌, true, false, [], ◌∷◌, length};
+ghost use Rattle.std.specs.Prelude.{◌≡◌, ◌<◌, ℕ, ◌+◌, true, false, [], ◌∷◌, length, OnOk, OnErr};
 ghost use Rattle.tardis_base.specs.Sizes.{piece};
-ghost use Rattle.hub.specs.Connections.{slots};
+ghost use Rattle.hub.specs.Connections.{connection_at, slots};
 ghost use Rattle.hub.specs.Runs.{close};
 ghost use Rattle.hub.specs.Telling.{Tells};
-ghost use Rattle.hub.specs.Keeping.{GoesOn, Turned};
+ghost use Rattle.hub.specs.Settlings.{settling};
+ghost use Rattle.hub.specs.Keeping.{Settles, GoesOn, Turned, IsUnsettled, Waits};
 ghost use Rattle.hub.specs.declared.ports.Seen.{Seen};
 ghost use Rattle.hub.specs.declared.upkeeps.Tally.{Tally};
 
@@ -13,21 +14,23 @@ use crate::answers::close_session;
 use crate::connections::{Connection, free_slot, put_connection, take_connection};
 use crate::ports::{Ports, Ready};
 use crate::upkeeps::Tally;
+use rest_machine::Settling;
 use std::alloc::Global;
-use tardis_base::{Machine, NoMemory, ReplyBuf};
+use tardis_base::{NoMemory, ReplyBuf};
+use tardis_io::Failed;
 
 /// As many connections may be there at once, each in a slot.
 pub const SLOTS: usize = 256;
 
 /// Lets a connection into a free slot. Where there is none it waits; where there is no memory it is turned away.
-fn enter<M: Machine, P: Ports>(
+fn enter<M: Settling, P: Ports>(
     alloc: Global,
     machine: &mut M,
     connections: &mut [Option<Connection>],
     ports: &mut P,
 )
     requires slots { length connections.old ≡ slots }
-    ensures turned { (tally : Tally) → GoesOn M.plain (M.stands machine.old) (M.stands machine.new) connections.old connections.new Ready.Accept tally tally
+    ensures turned { (tally : Tally) → GoesOn (settling M.plain M.is_settled M.settled) (M.stands machine.old) (M.stands machine.new) connections.old connections.new Ready.Accept tally tally
         (P.seen ports.old) (P.seen ports.new) }
     ensures slots { length connections.new ≡ length connections.old }
     ensures opening { M.opening machine.new ≡ M.opening machine.old }
@@ -46,7 +49,7 @@ fn enter<M: Machine, P: Ports>(
 }
 
 /// Reads of a connection and answers what came, unless much waits to be written to it or it is over.
-fn hear<M: Machine, P: Ports>(
+fn hear<M: Settling, P: Ports>(
     machine: &mut M,
     connections: &mut [Option<Connection>],
     ports: &mut P,
@@ -57,7 +60,7 @@ fn hear<M: Machine, P: Ports>(
 )
     requires slots { length connections.old ≡ slots }
     requires room { length buf.old ≡ piece }
-    ensures turned { GoesOn M.plain (M.stands machine.old) (M.stands machine.new) connections.old connections.new (Ready.Read slot) tally.old tally.new
+    ensures turned { GoesOn (settling M.plain M.is_settled M.settled) (M.stands machine.old) (M.stands machine.new) connections.old connections.new (Ready.Read slot) tally.old tally.new
         (P.seen ports.old) (P.seen ports.new) }
     ensures slots { length connections.new ≡ length connections.old }
     ensures room { length buf.new ≡ length buf.old }
@@ -77,37 +80,65 @@ fn hear<M: Machine, P: Ports>(
     }
 }
 
-/// Writes what waits to a connection, and answers what was held meanwhile.
-fn tell<M: Machine, P: Ports>(
+/// Settles what the machine owes, if it owes anything.
+fn settle_owed<M: Settling>(machine: &mut M) -> Result<(), Failed>
+    ensures settled { OnOk result ((s : M.Plain) → M.stands machine.old s → Settles (settling M.plain M.is_settled M.settled) (M.stands machine.new) s) }
+    ensures same { OnErr result ((s : M.Plain) → M.stands machine.old s → M.stands machine.new s) }
+    ensures cause { OnErr result (0 < M.faults machine.new) }
+    ensures opening { M.opening machine.new ≡ M.opening machine.old }
+{
+    if machine.owes() {
+        machine.settle()
+    } else {
+        Ok(())
+    }
+}
+
+/// Writes what waits to a connection, once all is settled, and answers what was held meanwhile. Answers whether it could be
+/// settled; else nothing was written.
+fn tell<M: Settling, P: Ports>(
     machine: &mut M,
     connections: &mut [Option<Connection>],
     ports: &mut P,
     slot: usize,
     reply: &mut ReplyBuf,
     tally: &mut Tally,
-)
+) -> bool
     requires slots { length connections.old ≡ slots }
-    ensures turned { GoesOn M.plain (M.stands machine.old) (M.stands machine.new) connections.old connections.new (Ready.Write slot) tally.old tally.new
-        (P.seen ports.old) (P.seen ports.new) }
+    ensures turned { result ≡ true → GoesOn (settling M.plain M.is_settled M.settled) (M.stands machine.old) (M.stands machine.new)
+        connections.old connections.new (Ready.Write slot) tally.old tally.new (P.seen ports.old) (P.seen ports.new) }
+    ensures unsettled { result ≡ false → ((s : M.Plain) → M.stands machine.old s → M.stands machine.new s)
+        × Waits (connection_at connections.old slot) × (ports.new ≡ ports.old) }
+    ensures cause { result ≡ false → 0 < M.faults machine.new }
     ensures slots { length connections.new ≡ length connections.old }
     ensures opening { M.opening machine.new ≡ M.opening machine.old }
 {
     match take_connection(connections, slot) {
         Some(mut connection) => {
             if connection.has_to_write() {
-                let count = ports.write(slot, connection.to_write());
-                connection.sent(machine, slot as u16 + 1, count, reply, tally);
-                put_connection(connections, slot, connection);
+                match settle_owed(machine) {
+                    Ok(()) => {
+                        let count = ports.write(slot, connection.to_write());
+                        connection.sent(machine, slot as u16 + 1, count, reply, tally);
+                        put_connection(connections, slot, connection);
+                        true
+                    }
+                    Err(Failed) => {
+                        put_connection(connections, slot, connection);
+                        false
+                    }
+                }
             } else {
                 put_connection(connections, slot, connection);
+                true
             }
         }
-        None => {}
+        None => true,
     }
 }
 
 /// Ends a connection, and closes its session.
-fn leave<M: Machine, P: Ports>(
+fn leave<M: Settling, P: Ports>(
     machine: &mut M,
     connections: &mut [Option<Connection>],
     ports: &mut P,
@@ -116,7 +147,7 @@ fn leave<M: Machine, P: Ports>(
 )
     requires slots { length connections.old ≡ slots }
     requires sure { (n : ℕ) → n < slots → M.plain.is_sure (n + 1, close) ≡ true }
-    ensures turned { (tally : Tally) → GoesOn M.plain (M.stands machine.old) (M.stands machine.new) connections.old connections.new (Ready.Close slot) tally tally
+    ensures turned { (tally : Tally) → GoesOn (settling M.plain M.is_settled M.settled) (M.stands machine.old) (M.stands machine.new) connections.old connections.new (Ready.Close slot) tally tally
         (P.seen ports.old) (P.seen ports.new) }
     ensures slots { length connections.new ≡ length connections.old }
     ensures opening { M.opening machine.new ≡ M.opening machine.old }
@@ -130,8 +161,18 @@ fn leave<M: Machine, P: Ports>(
     }
 }
 
-/// Makes one turn: asks the edge what is ready, and does it. Answers whether the hub goes on.
-pub(crate) fn turn<M: Machine, P: Ports>(
+/// What became of a turn.
+pub(crate) enum Outcome {
+    /// The hub goes on.
+    On,
+    /// The edge said stop.
+    Stopped,
+    /// What was answered couldn't be settled.
+    Unsettled,
+}
+
+/// Makes one turn: asks the edge what is ready, and does it.
+pub(crate) fn turn<M: Settling, P: Ports>(
     alloc: Global,
     machine: &mut M,
     connections: &mut [Option<Connection>],
@@ -139,14 +180,17 @@ pub(crate) fn turn<M: Machine, P: Ports>(
     buf: &mut [u8],
     reply: &mut ReplyBuf,
     tally: &mut Tally,
-) -> bool
+) -> Outcome
     requires slots { length connections.old ≡ slots }
     requires room { length buf.old ≡ piece }
     requires sure { (n : ℕ) → n < slots → M.plain.is_sure (n + 1, close) ≡ true }
-    ensures turned { result ≡ true → Turned M.plain (M.stands machine.old) (M.stands machine.new) connections.old connections.new tally.old tally.new
-        (P.seen ports.old) (P.seen ports.new) }
-    ensures stopped { result ≡ false → (machine.new ≡ machine.old) × (connections.new ≡ connections.old) × (tally.new ≡ tally.old)
+    ensures turned { result ≡ Outcome.On → Turned (settling M.plain M.is_settled M.settled) (M.stands machine.old) (M.stands machine.new)
+        connections.old connections.new tally.old tally.new (P.seen ports.old) (P.seen ports.new) }
+    ensures stopped { result ≡ Outcome.Stopped → (machine.new ≡ machine.old) × (connections.new ≡ connections.old) × (tally.new ≡ tally.old)
         × Tells (P.seen ports.old) (P.seen ports.new) (Seen.Offered Ready.Stop ∷ []) }
+    ensures unsettled { result ≡ Outcome.Unsettled
+        → IsUnsettled (M.stands machine.old) (M.stands machine.new) connections.old (P.seen ports.old) (P.seen ports.new) }
+    ensures cause { result ≡ Outcome.Unsettled → 0 < M.faults machine.new }
     ensures slots { length connections.new ≡ length connections.old }
     ensures room { length buf.new ≡ length buf.old }
     ensures opening { M.opening machine.new ≡ M.opening machine.old }
@@ -154,20 +198,23 @@ pub(crate) fn turn<M: Machine, P: Ports>(
     match ports.ready(connections) {
         Ready::Accept => {
             enter(alloc, machine, connections, ports);
-            true
+            Outcome::On
         }
         Ready::Read(slot) => {
             hear(machine, connections, ports, slot, buf, reply, tally);
-            true
+            Outcome::On
         }
         Ready::Write(slot) => {
-            tell(machine, connections, ports, slot, reply, tally);
-            true
+            if tell(machine, connections, ports, slot, reply, tally) {
+                Outcome::On
+            } else {
+                Outcome::Unsettled
+            }
         }
         Ready::Close(slot) => {
             leave(machine, connections, ports, slot, reply);
-            true
+            Outcome::On
         }
-        Ready::Stop => false,
+        Ready::Stop => Outcome::Stopped,
     }
 }

@@ -4,7 +4,8 @@ ghost use Rattle.std.specs.Prelude.{◌≡◌, [], ◌∷◌, map, option_map};
 ghost use Rattle.hub.specs.Upkeeps.{rule_of, whole_tally, noted, due_by};
 ghost use Rattle.hub.specs.Answering.{Asked};
 
-use tardis_base::{Machine, NoMemory, ReplyBuf};
+use rest_machine::Settling;
+use tardis_base::{NoMemory, ReplyBuf};
 
 /// Requests that a hub asks its machine itself, as actor 0, in this order: each time that `after` replies which begin with
 /// `code` were given to connections since it last did, or since it began. The replies go to nobody.
@@ -67,7 +68,7 @@ impl Tally {
 }
 
 /// Asks these requests as actor 0, and leaves the replies.
-pub(crate) fn keep_up<M: Machine>(machine: &mut M, requests: &[&[u8]], reply: &mut ReplyBuf)
+pub(crate) fn keep_up<M: Settling>(machine: &mut M, requests: &[&[u8]], reply: &mut ReplyBuf)
     ensures asked { (s : M.Plain) → M.stands machine.old s → Asked M.plain (M.stands machine.new) (map (λ r. r.now) requests.now) s }
     ensures opening { M.opening machine.new ≡ M.opening machine.old }
 {
@@ -77,7 +78,7 @@ pub(crate) fn keep_up<M: Machine>(machine: &mut M, requests: &[&[u8]], reply: &m
 }
 
 /// Asks one request as actor 0, and leaves the reply.
-fn ask<M: Machine>(machine: &mut M, request: &[u8], reply: &mut ReplyBuf)
+fn ask<M: Settling>(machine: &mut M, request: &[u8], reply: &mut ReplyBuf)
     ensures asked { (s : M.Plain) → M.stands machine.old s → Asked M.plain (M.stands machine.new) (request.now ∷ []) s }
     ensures opening { M.opening machine.new ≡ M.opening machine.old }
 {

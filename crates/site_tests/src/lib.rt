@@ -35,6 +35,8 @@ mod of_export_run;
 #[cfg(test)]
 mod of_floors;
 #[cfg(test)]
+mod of_hub;
+#[cfg(test)]
 mod of_limits;
 #[cfg(test)]
 mod of_load_run;

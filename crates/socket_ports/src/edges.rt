@@ -9,6 +9,7 @@ use mio::{Events, Poll, Token};
 use std::alloc::Global;
 use std::io;
 use std::net::Net;
+use std::time::Duration;
 
 /// The name of the door among the events of the system. The connections have their slots' numbers.
 const DOOR: usize = SLOTS;
@@ -16,9 +17,21 @@ const DOOR: usize = SLOTS;
 /// So many events are taken at once: one for each connection, and one for the door.
 const MOST_EVENTS: usize = SLOTS + 1;
 
-/// The connections that came through a door. Each is offered in its turn what it is ready for: one read, then the write of
-/// its replies, and then the next has its turn. When the peer has sent all, the connection ends once its replies are
-/// written.
+/// What is offered now.
+#[derive(Clone, Copy, PartialEq, Eq)]
+enum Step {
+    /// The door.
+    Admit,
+    /// What may be read.
+    Read,
+    /// What may be written, and what is over.
+    Write,
+}
+
+/// The connections that came through a door, offered in rounds. A round begins with what the system tells by then. A
+/// connection that waits at the door is offered first; then one read of each connection that may give bytes; and then one write
+/// to each for which bytes wait. So what is answered in a round can be settled at once for all, and no connection keeps the
+/// others waiting for longer than a round. When a peer has sent all, its connection ends once its replies are written.
 ///
 /// It tells nothing of what it saw, and ends only where the system can't be waited for.
 #[derive(Drop)]
@@ -32,10 +45,9 @@ pub struct SocketPorts {
     /// How many connections there are, and no slot from `high` on has one.
     open: usize,
     high: usize,
-    /// The slot whose turn is next.
+    step: Step,
+    /// The slot whose turn is next in this step.
     next: usize,
-    /// The slot that was offered a read last, so that its replies go out at once.
-    heard: Option<usize>,
 }
 
 impl SocketPorts {
@@ -57,42 +69,74 @@ impl SocketPorts {
             plugs,
             open: 0,
             high: 0,
+            step: Step::Admit,
             next: 0,
-            heard: None,
         })
     }
 
-    /// What is ready by what is known, if anything is.
+    /// What is next in this round, if anything is left of it.
     fn offer(&mut self, connections: &[Option<Connection>]) -> Option<Ready> {
-        if let Some(slot) = self.heard.take() {
-            if let Some(Work::Write) = self.work(connections, slot) {
-                return Some(Ready::Write(slot));
+        if self.step == Step::Admit {
+            self.go_to(Step::Read);
+            if self.may_admit() {
+                self.knocked = false;
+                return Some(Ready::Accept);
             }
         }
-        for _ in 0..=self.high {
-            if self.next >= self.high {
-                self.next = 0;
-                if self.knocked && self.open < SLOTS {
-                    self.knocked = false;
-                    return Some(Ready::Accept);
-                }
+        if self.step == Step::Read {
+            if let Some(slot) = self.next_read(connections) {
+                return Some(Ready::Read(slot));
             }
-            let slot = self.next;
-            self.next = slot.saturating_add(1);
-            match self.work(connections, slot) {
-                Some(Work::Read) => {
-                    self.heard = Some(slot);
-                    return Some(Ready::Read(slot));
-                }
-                Some(Work::Write) => return Some(Ready::Write(slot)),
-                Some(Work::Close) => return Some(Ready::Close(slot)),
-                None => {}
+            self.go_to(Step::Write);
+        }
+        self.next_end(connections)
+    }
+
+    fn go_to(&mut self, step: Step) {
+        self.step = step;
+        self.next = 0;
+    }
+
+    /// Whether a connection may wait at the door, and there is a slot for it.
+    fn may_admit(&self) -> bool {
+        self.knocked && self.open < SLOTS
+    }
+
+    /// The next connection that may give bytes.
+    fn next_read(&mut self, connections: &[Option<Connection>]) -> Option<usize> {
+        for slot in self.next..self.high {
+            if self.may_read(connections, slot) {
+                self.next = slot.saturating_add(1);
+                return Some(slot);
             }
         }
         None
     }
 
-    /// What there is to do for the connection in the slot.
+    /// The next connection that may take bytes, or that is over.
+    fn next_end(&mut self, connections: &[Option<Connection>]) -> Option<Ready> {
+        for slot in self.next..self.high {
+            if let Some(work) = self.work(connections, slot) {
+                self.next = slot.saturating_add(1);
+                return Some(match work {
+                    Work::Write => Ready::Write(slot),
+                    Work::Close => Ready::Close(slot),
+                });
+            }
+        }
+        self.next = self.high;
+        None
+    }
+
+    /// Whether the connection in the slot may give bytes.
+    fn may_read(&self, connections: &[Option<Connection>], slot: usize) -> bool {
+        match (self.plugs.get(slot), connections.get(slot)) {
+            (Some(Some(plug)), Some(Some(connection))) => plug.may_read(connection),
+            _ => false,
+        }
+    }
+
+    /// What else there is to do for the connection in the slot.
     fn work(&self, connections: &[Option<Connection>], slot: usize) -> Option<Work> {
         match (self.plugs.get(slot), connections.get(slot)) {
             (Some(Some(plug)), Some(Some(connection))) => plug.work(connection),
@@ -100,9 +144,25 @@ impl SocketPorts {
         }
     }
 
-    /// Waits for the system to tell of something, and notes it.
-    fn wait(&mut self) -> io::Result<()> {
-        self.poll.poll(&mut self.events, None)?;
+    /// Whether something is known to be left to do behind a round, so that the next one needn't be waited for.
+    fn is_left(&self, connections: &[Option<Connection>]) -> bool {
+        for slot in 0..self.high {
+            if self.may_read(connections, slot) || self.work(connections, slot).is_some() {
+                return true;
+            }
+        }
+        self.may_admit()
+    }
+
+    /// Begins a round: notes what the system tells. Where nothing is left to do it is waited for.
+    fn begin_round(&mut self, connections: &[Option<Connection>]) -> io::Result<()> {
+        let timeout = if self.is_left(connections) {
+            Some(Duration::ZERO)
+        } else {
+            None
+        };
+        self.go_to(Step::Admit);
+        self.poll.poll(&mut self.events, timeout)?;
         for event in self.events.iter() {
             let Token(slot) = event.token();
             if slot == DOOR {
@@ -154,7 +214,7 @@ impl Ports for SocketPorts {
             if let Some(offer) = self.offer(connections) {
                 return offer;
             }
-            match self.wait() {
+            match self.begin_round(connections) {
                 Ok(()) => {}
                 Err(error) if is_passing(&error) => {}
                 Err(_) => return Ready::Stop,

@@ -1,6 +1,6 @@
 //! A connection and what is known of it.
 
-ghost use Rattle.std.specs.Prelude.{◌≡◌, ◌≤◌, [], Some, true, length};
+ghost use Rattle.std.specs.Prelude.{◌≡◌, ◌≤◌, [], Some, true, false, length};
 
 use crate::doors::Stream;
 use hub::Connection;
@@ -8,10 +8,9 @@ use mio::event::Event;
 use mio::{Interest, Registry, Token};
 use std::io;
 
-/// What a connection may be ready for.
+/// What may be left to do for a connection, but for reading.
 #[derive(Clone, Copy)]
 pub(crate) enum Work {
-    Read,
     Write,
     Close,
 }
@@ -68,7 +67,14 @@ impl Plug {
         }
     }
 
-    /// What there is to do, by what the hub has of the connection.
+    /// Whether it may give bytes, and the hub wants them.
+    pub(crate) fn may_read(&self, connection: &Connection) -> bool
+        ensures over { connection.now.long ≡ true → result ≡ false }
+    {
+        self.readable && !self.ended && !self.gone && connection.wants_read()
+    }
+
+    /// What else there is to do, by what the hub has of the connection.
     pub(crate) fn work(&self, connection: &Connection) -> Option<Work>
         ensures over { connection.now.long ≡ true → connection.now.waiting ≡ [] → result ≡ Some Work.Close }
     {
@@ -77,22 +83,14 @@ impl Plug {
         } else if connection.has_to_write() {
             if self.writable {
                 Some(Work::Write)
-            } else if self.may_read(connection) {
-                Some(Work::Read)
             } else {
                 None
             }
         } else if self.ended {
             Some(Work::Close)
-        } else if self.may_read(connection) {
-            Some(Work::Read)
         } else {
             None
         }
-    }
-
-    fn may_read(&self, connection: &Connection) -> bool {
-        self.readable && !self.ended && connection.wants_read()
     }
 
     /// Reads once. After a read that didn't fill the buffer nothing is left, unless the peer said that it sends no more:

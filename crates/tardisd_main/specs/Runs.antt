@@ -5,7 +5,7 @@ use Rattle.command_words.specs.Daemons.{Daemon, daemon}
 use Rattle.command_words.specs.Helps.{AskUsage, AskVersion}
 use Rattle.hub.specs.declared.ports.Seen.{Seen}
 use Rattle.hub.specs.declared.serves.End.{End}
-use Rattle.hub.specs.declared.serves.End.TheVariants.{Stopped, Spent as AllTurns}
+use Rattle.hub.specs.declared.serves.End.TheVariants.{Stopped, Unsettled, Spent as AllTurns}
 use Rattle.tardisd_main.specs.declared.endings.GateFault.{GateFault}
 use Rattle.tardisd_main.specs.declared.endings.GateFault.TheVariants.{Lost}
 use Rattle.tardisd_main.specs.declared.endings.DaemonEnd.{DaemonEnd}
@@ -23,15 +23,16 @@ Tells text WriteFailed before after = (lost : List ℕ) × ((after ++ lost ≡ b
 Tells text NoMemory before after = after ≡ before
 Tells text _ before after = ⊥
 
--- how a server ends whose connections ended so
-abbrev pub end_of : End → DaemonEnd
-end_of Stopped = Gate Lost
-end_of AllTurns = Spent
+-- how a server ends whose connections ended so; a site in memory can always settle
+abbrev pub EndsBy : End → DaemonEnd → Type 0
+EndsBy Stopped end = end ≡ Gate Lost
+EndsBy AllTurns end = end ≡ Spent
+EndsBy Unsettled end = ⊥
 
 -- what becomes of an edge that was asked to open: over it the site at the place is served, or there was no memory for that
 abbrev pub EndsAs : {P : Type 0} → (P → Option (List Seen)) → Result P GateFault → Daemon → DaemonEnd → Type 0
 EndsAs {P} seen (Ok ports) asked end =
-    (end ≡ NoMemory) ⊎ ((left : P) × (why : End) × ServesPlace asked.place asked.tidy why (seen ports) (seen left) × (end ≡ end_of why))
+    (end ≡ NoMemory) ⊎ ((left : P) × (why : End) × ServesPlace asked.place asked.tidy why (seen ports) (seen left) × EndsBy why end)
 EndsAs seen (Err fault) asked end = end ≡ Gate fault
 
 module _ {D P : Type 0} (opens : List ℕ → Result P GateFault → Type 0) (seen : P → Option (List Seen)) where

@@ -6,6 +6,7 @@ use Rattle.command_words.specs.declared.commands.Place.{Place}
 use Rattle.command_words.specs.Places.{program_limits}
 use Rattle.hub.specs.declared.ports.Seen.{Seen}
 use Rattle.hub.specs.declared.serves.End.{End}
+use Rattle.hub.specs.Settlings.{in_memory}
 use Rattle.hub.specs.Upkeeps.{UpkeepRule}
 use Rattle.hub.specs.Runs.{IsRun}
 use Rattle.plain_site.specs.Site.{opening}
@@ -20,4 +21,4 @@ upkeep_rule true = Some record { code = 8; after = 64; requests = request_spelli
 
 -- a run of a hub over the plain site of this place that opens, to a sound site, with this upkeep, and what the edge saw
 abbrev pub ServesPlace : Place → Bool → End → (before after : Option (List Seen)) → Type 0
-ServesPlace place tidy end before after = IsRun site_machine (upkeep_rule tidy) IsSound (opening (program_limits place.sites) place.site) end before after
+ServesPlace place tidy end before after = IsRun (in_memory site_machine) (upkeep_rule tidy) IsSound (opening (program_limits place.sites) place.site) end before after

@@ -8,7 +8,7 @@ ghost use Rattle.tardis_io.specs.Told.{WhileTold};
 ghost use Rattle.command_words.specs.Helps.{AskUsage, AskVersion};
 ghost use Rattle.command_words.specs.Daemons.{daemon_of};
 ghost use Rattle.command_words.specs.Places.{IsPlace};
-ghost use Rattle.tardisd_main.specs.Runs.{AreNone, end_of, Serves, ServesAs, Tells};
+ghost use Rattle.tardisd_main.specs.Runs.{AreNone, EndsBy, Serves, ServesAs, Tells};
 
 use crate::asks::plan_of;
 use crate::doors::Doors;
@@ -132,10 +132,12 @@ fn open_and_serve<D: Doors>(
 
 /// How a server ends whose connections ended so.
 fn ending_of(end: End) -> DaemonEnd
-    ensures { result ≡ end_of end }
+    requires settled { end ≡ End.Unsettled → ⊥ }
+    ensures { EndsBy end result }
 {
     match end {
         End::Stopped => DaemonEnd::Gate(GateFault::Lost),
         End::Spent => DaemonEnd::Spent,
+        End::Unsettled => unreachable!(),
     }
 }

@@ -1,6 +1,7 @@
 //! One site over the connections of an edge.
 
 ghost use Rattle.std.specs.Prelude.{◌≡◌, ◌<◌, ◌+◌, ℕ, true, option_map, IfOk, IfSome, OnErr};
+ghost use Rattle.hub.specs.Settlings.{in_memory};
 ghost use Rattle.hub.specs.Upkeeps.{rule_of};
 ghost use Rattle.hub.specs.Runs.{close, IsRun};
 ghost use Rattle.command_words.specs.Places.{IsPlace};
@@ -8,19 +9,18 @@ ghost use Rattle.tardisd_main.specs.Sites.{upkeep_rule, ServesPlace};
 
 use command_words::Place;
 use hub::{End, Ports, Upkeep, serve};
+use rest_machine::InMemory;
 use session_core::SiteCore;
 use std::alloc::Global;
 use std::hash::RandomState;
 use tardis_base::{Machine, NoMemory};
-
-/// The first byte of a reply that tells of a commit.
-const COMMITTED: u8 = 8;
+use wire_talk::{reply_codes, request_codes};
 
 /// The request RaiseAuto.
-const RAISE_AUTO: [u8; 1] = [14];
+const RAISE_AUTO: [u8; 1] = [request_codes::RAISE_AUTO];
 
 /// The request Tidy, for 64 states.
-const TIDY: [u8; 3] = [15, 0, 64];
+const TIDY: [u8; 3] = [request_codes::TIDY, 0, 64];
 
 /// Serves the connections of an edge as the site at this place, which opens with the root alone: each connection is an
 /// actor, and its requests are answered as `hub::serve` says. Keys are found by hashing with this seed. With `tidy` the
@@ -35,6 +35,7 @@ pub fn serve_place<P: Ports>(
 ) -> Result<End, NoMemory>
     requires place { IsPlace place }
     ensures served { IfOk result (λ end. ServesPlace place tidy end (P.seen ports.old) (P.seen ports.new)) }
+    ensures settled { IfOk result (λ end. end ≡ End.Unsettled → ⊥) }
     ensures nothing { OnErr result (ports.new ≡ ports.old) }
 {
     match SiteCore::new(alloc, keys, place.limits(), place.site) {
@@ -43,7 +44,7 @@ pub fn serve_place<P: Ports>(
     }
 }
 
-/// Serves the connections of an edge by a machine, which ends with the run.
+/// Serves the connections of an edge by a machine, which ends with the run: so it owes nothing, and all it answers is told.
 fn serve_machine<M: Machine, P: Ports>(
     alloc: Global,
     machine: M,
@@ -52,10 +53,11 @@ fn serve_machine<M: Machine, P: Ports>(
 ) -> Result<End, NoMemory>
     requires sure { (n : ℕ) → n < 256 → M.plain.is_sure (n + 1, close) ≡ true }
     ensures served { IfOk result (λ end. (s : M.Plain) → M.stands machine s
-        → IsRun M.plain (upkeep_rule tidy) (λ t. (m : M) × M.stands m t) s end (P.seen ports.old) (P.seen ports.new)) }
+        → IsRun (in_memory M.plain) (upkeep_rule tidy) (λ t. (m : M) × M.stands m t) s end (P.seen ports.old) (P.seen ports.new)) }
+    ensures settled { IfOk result (λ end. end ≡ End.Unsettled → ⊥) }
     ensures nothing { OnErr result (ports.new ≡ ports.old) }
 {
-    let mut machine = machine;
+    let mut machine = InMemory { machine };
     serve(alloc, &mut machine, ports, upkeep_of(tidy))
 }
 
@@ -66,7 +68,7 @@ fn upkeep_of(tidy: bool) -> Option<Upkeep<'static>>
 {
     if tidy {
         Some(Upkeep {
-            code: COMMITTED,
+            code: reply_codes::COMMITTED,
             after: 64,
             requests: &[&RAISE_AUTO, &TIDY],
         })

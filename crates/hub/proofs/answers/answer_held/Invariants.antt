@@ -4,9 +4,9 @@ use Rattle.hub.proofs.answers.answer_held.Given as goal
 
 abbrev pub invariant-loop-cutter : goal.invariant-loop-cutter
 invariant-loop-cutter g l = record {
-  served : Serves g.M.Machine.plain (g.M.Machine.stands l.fn.machine) (g.M.Machine.stands l.machine) l.fn.actor l.fn.cutter l.cutter l.fn.waiting l.waiting
+  served : Serves g.M.Settling.plain (g.M.Settling.stands l.fn.machine) (g.M.Settling.stands l.machine) l.fn.actor l.fn.cutter l.cutter l.fn.waiting l.waiting
       l.fn.tally l.tally;
-  opening : g.M.Machine.opening l.machine ≡ g.M.Machine.opening l.fn.machine;
+  opening : g.M.Settling.opening l.machine ≡ g.M.Settling.opening l.fn.machine;
 }
 
 abbrev pub decreases-loop-cutter : goal.decreases-loop-cutter

@@ -2,8 +2,8 @@ use Rattle.hub.proofs.Serving.{asked_ok, asked_err}
 use Rattle.hub.proofs.upkeeps.ask.Goals as goal
 
 pub returns-in-Ok-clause-asked : goal.returns-in-Ok-clause-asked
-returns-in-Ok-clause-asked g c = λ s f. asked_ok g.M.Machine.plain (g.M.Machine.stands c.act.new.self) c.args.request.now s (c.in-Ok.ensures.step s f)
+returns-in-Ok-clause-asked g c = λ s f. asked_ok g.M.Settling.plain (g.M.Settling.stands c.act.new.self) c.args.request.now s (c.in-Ok.ensures.step s f)
 
 pub returns-in-Err-clause-asked : goal.returns-in-Err-clause-asked
-returns-in-Err-clause-asked g c = λ s f. asked_err g.M.Machine.plain (g.M.Machine.stands c.act.new.self) c.args.request.now s c.in-Err.ensures.sure
+returns-in-Err-clause-asked g c = λ s f. asked_err g.M.Settling.plain (g.M.Settling.stands c.act.new.self) c.args.request.now s c.in-Err.ensures.sure
     (c.in-Err.ensures.same s f)

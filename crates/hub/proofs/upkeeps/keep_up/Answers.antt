@@ -4,16 +4,16 @@ use Rattle.hub.proofs.Serving.{asked_none, asked_more, one_more, all_of}
 use Rattle.hub.proofs.upkeeps.keep_up.Goals as goal
 
 pub loop-request-init : goal.loop-request-init
-loop-request-init g c = record { asked = λ s f. asked_none g.M.Machine.plain (g.M.Machine.stands c.args.machine.now) s f; opening = refl }
+loop-request-init g c = record { asked = λ s f. asked_none g.M.Settling.plain (g.M.Settling.stands c.args.machine.now) s f; opening = refl }
 
 pub loop-request-preserved : goal.loop-request-preserved
 loop-request-preserved g c =
     let requests = c.args.requests.now in
     let place = c.loop-request.request-index in
     record {
-      asked = λ s f. subst (λ bodies. Asked g.M.Machine.plain (g.M.Machine.stands c.ask.new.machine) bodies s)
+      asked = λ s f. subst (λ bodies. Asked g.M.Settling.plain (g.M.Settling.stands c.ask.new.machine) bodies s)
           (sym (one_more requests place record { ref_ptr = (0, 0); now = [] } c.loop-request-test.true))
-          (asked_more g.M.Machine.plain (g.M.Machine.stands c.loop-request.machine) (g.M.Machine.stands c.ask.new.machine)
+          (asked_more g.M.Settling.plain (g.M.Settling.stands c.loop-request.machine) (g.M.Settling.stands c.ask.new.machine)
           (take place (map (λ r. r.now) requests)) ((get_or requests place record { ref_ptr = (0, 0); now = [] }).now ∷ []) s
           (c.loop-request.invariant.asked s f) c.ask.ensures.asked);
       opening = c.ask.ensures.opening ∙ c.loop-request.invariant.opening;
@@ -21,7 +21,7 @@ loop-request-preserved g c =
 
 pub returns-clause-asked : goal.returns-clause-asked
 returns-clause-asked g c =
-    λ s f. subst (λ bodies. Asked g.M.Machine.plain (g.M.Machine.stands c.loop-request.machine) bodies s)
+    λ s f. subst (λ bodies. Asked g.M.Settling.plain (g.M.Settling.stands c.loop-request.machine) bodies s)
     (all_of c.args.requests.now c.loop-request.request-index c.loop-request-test.false) (c.loop-request.invariant.asked s f)
 
 pub returns-clause-opening : goal.returns-clause-opening

@@ -4,7 +4,7 @@ use Rattle.hub.proofs.upkeeps.keep_up.Given as goal
 
 abbrev pub invariant-loop-request : goal.invariant-loop-request
 invariant-loop-request g l = record {
-  asked : (s : g.M.Machine.Plain) → g.M.Machine.stands l.fn.machine s →
-      Asked g.M.Machine.plain (g.M.Machine.stands l.machine) (take l.request-index (map (λ r. r.now) l.requests)) s;
-  opening : g.M.Machine.opening l.machine ≡ g.M.Machine.opening l.fn.machine;
+  asked : (s : g.M.Settling.Plain) → g.M.Settling.stands l.fn.machine s →
+      Asked g.M.Settling.plain (g.M.Settling.stands l.machine) (take l.request-index (map (λ r. r.now) l.requests)) s;
+  opening : g.M.Settling.opening l.machine ≡ g.M.Settling.opening l.fn.machine;
 }

@@ -1,0 +1,129 @@
+//! A hub over a machine that settles what it answered, until it can't.
+
+ghost use Rattle.std.specs.Prelude.{◌≡◌, [], ◌∷◌, Bool, true, false, refl};
+
+use crate::talks::copied;
+use hub::{End, MemoryPorts, Move, Seen, serve};
+use rest_machine::Settling;
+use std::alloc::Global;
+use std::process::Abort;
+use tardis_base::{ByteList, NoMemory, ReplyBuf};
+use tardis_io::Failed;
+
+/// Replies one byte to each request, and owes that it is settled. It settles twice, and then fails.
+#[derive(Drop)]
+struct Owing {
+    owed: bool,
+    settles: u8,
+    faults: u8,
+}
+
+impl Settling for Owing {
+    ghost Plain = { Bool };
+
+    ghost plain = { record { step = λ s e. true; reply = λ s e. 7 ∷ []; is_sure = λ e. true } };
+
+    ghost stands = { λ m s. m.owed ≡ s };
+
+    ghost opening = { λ m. false };
+
+    ghost is_settled = { λ s. s ≡ false };
+
+    ghost settled = { λ s. false };
+
+    ghost faults = { λ m. m.faults };
+
+    fn act(&mut self, actor: u16, request: &[u8], out: &mut ReplyBuf) -> Result<(), NoMemory> {
+        let _ = actor;
+        let _ = request;
+        out.clear();
+        out.push_byte(7);
+        self.owed = true;
+        Ok(())
+    }
+
+    fn owes(&self) -> bool {
+        self.owed
+    }
+
+    fn settle(&mut self) -> Result<(), Failed> {
+        if self.settles == 2 {
+            self.faults = 1;
+            return Err(Failed);
+        }
+        self.settles = self.settles.saturating_add(1);
+        self.owed = false;
+        Ok(())
+    }
+
+    ghost settles = { λ s. refl };
+}
+
+/// A connection in a slot asks for something.
+fn asks(rt: &impl Abort, alloc: Global, slot: usize) -> Move {
+    let bytes = ByteList::from_vec(copied(rt, alloc, &[0, 0, 0, 1, 1]));
+    Move::Read { slot, bytes }
+}
+
+/// What an edge does by its letter: connection `a` or `b` asks, or is told under the same large letter; with another one a
+/// connection comes.
+fn move_of(rt: &impl Abort, alloc: Global, letter: u8) -> Move {
+    match letter {
+        b'a' => asks(rt, alloc, 0),
+        b'b' => asks(rt, alloc, 1),
+        b'A' => Move::Write { slot: 0, most: 100 },
+        b'B' => Move::Write { slot: 1, most: 100 },
+        _ => Move::Accept { comes: true },
+    }
+}
+
+/// An edge that does what these letters say.
+fn edge_of(rt: &impl Abort, alloc: Global, letters: &[u8]) -> MemoryPorts {
+    let mut moves = Vec::new(alloc);
+    for letter in letters {
+        moves.push(move_of(rt, alloc, *letter)).expect(rt, "room");
+    }
+    MemoryPorts::new(alloc, moves)
+}
+
+/// How many of these calls are offers, and how many are writes.
+fn counts_of(calls: &[Seen]) -> (usize, usize) {
+    let offers = calls.iter().filter(|call| matches!(call, Seen::Offered(_)));
+    let writes = calls
+        .iter()
+        .filter(|call| matches!(call, Seen::WroteTo { .. }));
+    (offers.count(), writes.count())
+}
+
+/// What a hub makes of an edge that does what the letters say: how it ends, how often it settles, and how many offers and
+/// writes the edge sees.
+fn came_of(rt: &impl Abort, alloc: Global, letters: &[u8]) -> (End, u8, (usize, usize)) {
+    let mut machine = Owing {
+        owed: false,
+        settles: 0,
+        faults: 0,
+    };
+    let mut ports = edge_of(rt, alloc, letters);
+    let end = serve(alloc, &mut machine, &mut ports, None).expect(rt, "memory");
+    let counts = counts_of(ports.seen().expect(rt, "memory"));
+    drop(ports);
+    (end, machine.settles, counts)
+}
+
+#[test]
+fn what_was_answered_is_settled_before_it_is_told(rt: HostRuntime) {
+    let rows: [(&[u8], End, u8, (usize, usize)); 5] = [
+        // nothing is told, so nothing is settled
+        (b"+Aa", End::Stopped, 0, (4, 0)),
+        // once, and all is told
+        (b"+aAA", End::Stopped, 1, (5, 1)),
+        // once for both that asked before
+        (b"++abAB", End::Stopped, 1, (7, 2)),
+        (b"++aAbB", End::Stopped, 2, (7, 2)),
+        // not a third time: nothing more is told, and nothing more is done
+        (b"++aAbBabAB", End::Unsettled, 2, (9, 2)),
+    ];
+    for (letters, end, settles, counts) in rows {
+        assert!(rt; came_of(&rt, rt.alloc(), letters) == (end, settles, counts));
+    }
+}
