@@ -1,6 +1,6 @@
-use Rattle.std.proofs.Common.{◌≡◌, ap, ◌∙◌, ◌+◌, ◌-◌, ◌++◌, ℕ, arith, length, List, take, drop, get_or, sym, subst}
+use Rattle.std.proofs.Common.{◌≡◌, ap, ◌∙◌, ◌+◌, ◌-◌, ◌++◌, arith, length, List, take, drop, get_or}
 use Rattle.std.specs.List.{insert, remove}
-use Rattle.std.proofs.lemmas.List.{length-drop, length-take, length-append, take-append-le, take_all}
+use Rattle.std.proofs.lemmas.List.{length-drop, length-take, take-append-le, take_all}
 use Rattle.shift_list.specs.Shifted.{Shifted}
 use Rattle.shift_list.proofs.Turned.{turned, turned-long}
 use Rattle.shift_list.proofs.ShiftList.carry.Goals as goal

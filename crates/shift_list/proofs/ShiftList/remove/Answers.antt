@@ -1,4 +1,4 @@
-use Rattle.std.proofs.Common.{ap, ◌∙◌, ◌+◌, arith, length, drop, List}
+use Rattle.std.proofs.Common.{ap, ◌∙◌, arith, length, drop, List}
 use Rattle.std.specs.List.{remove}
 use Rattle.std.proofs.lemmas.List.{length-drop}
 use Rattle.shift_list.specs.Shifted.{Shifted}

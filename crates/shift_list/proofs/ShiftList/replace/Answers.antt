@@ -1,4 +1,4 @@
-use Rattle.std.proofs.Common.{ap, ap₂, ◌∙◌, ◌+◌, List, slice_set}
+use Rattle.std.proofs.Common.{ap, ap₂, ◌∙◌, List, slice_set}
 use Rattle.std.proofs.lemmas.List.{drop-set-add}
 use Rattle.shift_list.specs.Shifted.{Shifted}
 use Rattle.shift_list.proofs.ShiftList.replace.Goals as goal

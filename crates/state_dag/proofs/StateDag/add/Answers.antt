@@ -1,4 +1,4 @@
-use Rattle.std.proofs.Common.{◌≡◌, ◌∙◌, ◌+◌, ◌-◌, ◌++◌, ◌∷◌, [], not, ◌<◌, ◌≤◌, ℕ, true, List, ltb, length, filter, take, get_or, unwrap_or, slice_get, slice_set}
+use Rattle.std.proofs.Common.{◌≡◌, ◌∙◌, ◌+◌, ◌-◌, ◌++◌, ◌∷◌, [], not, ◌<◌, ◌≤◌, ℕ, true, List, ltb, length, filter, get_or, unwrap_or, slice_get, slice_set}
 use Rattle.std.proofs.Common.{Option, None, Result, Ok, Err, OnErr, IsTrue, refl, sym, ap, ap₂, subst, arith}
 use Rattle.std.specs.List.{list_all}
 use Rattle.std.proofs.lemmas.Bool.{ne_eqb}

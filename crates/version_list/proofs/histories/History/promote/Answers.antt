@@ -1,9 +1,9 @@
 use Rattle.std.proofs.Common.{◌≡◌, ℕ, Bool, ◌&&◌, not, ap₂, ◌-◌, ◌<◌, ◌≤◌, false, true, List, take, drop, get_or, length, nat_le, refl, sym, ap, subst, ◌∙◌, arith}
-use Rattle.std.specs.List.{list_all, list_any, remove, insert}
+use Rattle.std.specs.List.{list_all, list_any, remove}
 use Rattle.version_list.specs.declared.histories.Version.{Version}
 use Rattle.version_list.specs.Lists.{Listed}
 use Rattle.version_list.specs.Versions.{has_version_at}
-use Rattle.version_list.specs.Promoted.{promoted, at_state}
+use Rattle.version_list.specs.Promoted.{promoted}
 use Rattle.version_list.proofs.Promotes.{any_version, promoted-none, promoted-gone, promoted-moved, before-end, own-found}
 use Rattle.version_list.proofs.histories.History.promote.Goals as goal
 
