@@ -196,17 +196,40 @@ def tidy(count):
     return b"\x0f" + struct.pack(">H", count)
 
 
-def tidied_chain(commits, kept):
-    """a chain of so many commits; every 64 the ceiling goes to so many states behind the last, the floor after it, and
-    what is closed is collected"""
+def tidied_chain(commits, kept, keys=1):
+    """a chain of so many commits, each of the next of so many keys; every 64 the ceiling goes to so many states behind the
+    last, the floor after it, and what is closed is collected"""
     yield frame(1, opens(follow=True))
     yield frame(2, opens())
     for place in range(1, commits + 1):
-        for request in (BEGIN_ANY, get("k"), put("k"), SERIALIZABLE):
+        name = "k%d" % (place % keys)
+        for request in (BEGIN_ANY, get(name), put(name), SERIALIZABLE):
             yield frame(1, request)
         if kept and place % 64 == 0 and place > kept:
             for request in (ceiling(1, place - kept), RAISE_AUTO, tidy(64)):
                 yield frame(2, request)
+
+
+def forks(states, asked):
+    """a chain of so many states, and then a second child of each of the first so many, from the oldest on"""
+    yield frame(1, opens())
+    for _ in range(states):
+        for request in (BEGIN_ANCESTOR, put("a"), SERIALIZABLE):
+            yield frame(1, request)
+    for place in range(1, asked + 1):
+        for request in (begin_at(1, place), put("b"), UNCONSTRAINED):
+            yield frame(1, request)
+
+
+def imported(keys):
+    """what `import` writes for so many keys: groups of 64, each with a floor and a Tidy behind it"""
+    yield frame(1, opens(follow=True))
+    for first in range(0, keys, 64):
+        yield frame(1, BEGIN_ANY)
+        for place in range(first, min(first + 64, keys)):
+            yield frame(1, put("k%07d" % place))
+        for request in (UNCONSTRAINED, RAISE_AUTO, tidy(64)):
+            yield frame(1, request)
 
 
 def one_tidy(states, asked):
@@ -248,6 +271,12 @@ SHAPES = {
     "chain 15,900, never tidied": [tidied_chain(15_900, 0)],
     "chain 40,000, tidied to 1,000": [tidied_chain(40_000, 1_000)],
     "chain 40,000, tidied to 15,000": [tidied_chain(40_000, 15_000)],
+    "chain 40,000, 4,000 keys, tidied to 1,000": [tidied_chain(40_000, 1_000, 4_000)],
+    "chain 40,000, 4,000 keys, tidied to 15,000": [tidied_chain(40_000, 15_000, 4_000)],
+    "second children of 1,000": [forks(1_000, 1_000), forks(1_000, 0)],
+    "second children of 4,000": [forks(4_000, 4_000), forks(4_000, 0)],
+    "import of 20,000 keys": [imported(20_000)],
+    "import of 80,000 keys": [imported(80_000)],
     "one Tidy of 16,000": [one_tidy(16_000, True), one_tidy(16_000, False)],
     "one Tidy of 2,000": [one_tidy(2_000, True), one_tidy(2_000, False)],
     "Stat of 16,000 states": [stats(16_000, False, 20_000), stats(16_000, False, 0)],

@@ -181,7 +181,8 @@ impl RecordStore {
     /// version that was read there before. The slot names no state any more; a state that is added may get it.
     ///
     /// It takes no memory. The cost is that of `detach`, and for each key that the state held that of a look-up, of binary
-    /// searches among its versions and of moving those that arrived after the state.
+    /// searches among its versions and of moving those between the state and its stand-in, or, where one goes, those before it
+    /// or behind it, whichever are fewer.
     pub fn collect(&mut self, slot: Slot) -> Slot
         requires { IsSome (shared_slot self.old.table slot) }
         ensures stand_in { shared_slot self.old.table slot ≡ Some result }

@@ -48,7 +48,7 @@ entries-same ns ms same (s ∷ slots) all =
     ∙ sym w.1
 
 module _ (a b : Inside) (held : IsHeld a) (limits : b.limits ≡ a.limits) (counts : b.counts ≡ a.counts) (known : b.known ≡ a.known)
-    (leaves : b.leaves.items ≡ a.leaves.items) (order : b.order.items ≡ a.order.items) (kept : b.kept ≡ a.kept)
+    (leaves : b.leaves.items ≡ a.leaves.items) (order : b.order.items ≡ a.order.items) (kept : b.kept ≡ a.kept) (used : b.order.used ≡ a.order.used)
     (same : entries_from 0 b.nodes.items ≡ entries_from 0 a.nodes.items) (slots : (x : StateId) → slot_of_state b.slots x ≡ slot_of_state a.slots x) (since : b.since.items ≡ a.since.items) where
   pub seen-same : (seen b).entries ≡ (seen a).entries
   seen-same = ap (entries_in b.nodes.items) (ap₂ (λ (k : ℕ) (ss : List Slot). take k ss) kept order)
@@ -70,6 +70,7 @@ module _ (a b : Inside) (held : IsHeld a) (limits : b.limits ≡ a.limits) (coun
         some = omega arith;
         within = (let within = held.within in omega arith);
         inside = (let inside = held.inside in omega arith);
+        used = used ∙ held.used ∙ sym kept;
         all = (let all = held.all in omega arith);
         few = (let few = held.few in omega arith);
         placed = subst (λ ss. list_all (λ (s : Slot). ltb s.0 (length b.nodes.items)) ss ≡ true) (sym order)
@@ -217,14 +218,14 @@ module _ (a b : Inside) (held : IsHeld a) (ns : List Node) (n : Node) (id : Stat
   module _ (f : Follow (Became (seen a) parents id slot) (seen a).entries (entries_in ns (kept_of a))) where
     pub held-next : (i c : ℕ) → b.limits ≡ a.limits → b.known ≡ a.known + 1 → b.counts.items ≡ set a.counts.items i c →
         ((x : StateId) → slot_of_state b.slots x ≡ cond (same_id x id) (Some slot) (slot_of_state a.slots x)) →
-        b.leaves.items ≡ filter (λ s. not (is_slot_among s parents)) a.leaves.items ++ slot ∷ [] → a.kept < a.limits.max_kept →
+        b.leaves.items ≡ filter (λ s. not (is_slot_among s parents)) a.leaves.items ++ slot ∷ [] → a.kept < a.limits.max_kept → b.order.used ≡ b.kept →
         n.id ≡ id → n.arrival ≡ a.known → n.children.items ≡ [] → n.stand_ins.items ≡ [] → are_ascending_pairs n.path.pairs ≡ true →
         too_long (seen a) parents ≡ None → length n.path.pairs ≤ a.limits.max_path → i < length a.counts.items → c ≡ get_or a.counts.items i 0 + 1 →
         c < 4294967296 → i ≡ id.site - 1 → c ≡ id.sequence → (time : ℕ) → get_or b.since.items slot.0 0 ≡ time →
         ((k : ℕ) → (k ≡ slot.0 → ⊥) → get_or b.since.items k 0 ≡ get_or a.since.items k 0) → length a.since.items ≤ length b.since.items →
         slot.0 < length b.since.items →
         list_all (λ (o : Entry). not (is_slot_among o.slot parents) || leb time o.arrival) (seen a).entries ≡ true → IsHeld b
-    held-next i c limits known counts slots leaves room is arrival leaf stands ups short shorts inside fresh fits at_site is_last time own_time others longer
+    held-next i c limits known counts slots leaves room used is arrival leaf stands ups short shorts inside fresh fits at_site is_last time own_time others longer
         there early =
         let es = (seen a).entries in
         let gs = entries_in ns (kept_of a) in
@@ -240,6 +241,7 @@ module _ (a b : Inside) (held : IsHeld a) (ns : List Node) (n : Node) (id : Stat
           some = omega arith;
           within = omega arith;
           inside = (let one = next.inside in omega arith);
+          used = used;
           all = (let one = next.all in omega arith);
           few = (let one = next.few in omega arith);
           placed = subst (λ ss. list_all (λ (s : Slot). ltb s.0 (length b.nodes.items)) ss ≡ true) (sym order)

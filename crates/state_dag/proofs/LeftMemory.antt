@@ -396,8 +396,8 @@ module _ (a b : Inside) (held : IsHeld a) (slot heir : Slot) (fork : Bool) (p : 
       pub held-left : b.limits ≡ a.limits → b.counts ≡ a.counts → b.known ≡ a.known → b.leaves.items ≡ without_slot slot a.leaves.items →
           ((x : StateId) → slot_of_state b.slots x ≡ cond (same_id x (get_or a.nodes.items slot.0 d).id) None (slot_of_state a.slots x)) →
           length b.since.items ≡ length a.since.items → get_or b.since.items heir.0 0 ≤ get_or a.since.items slot.0 0 →
-          ((k : ℕ) → get_or b.since.items k 0 ≤ get_or a.since.items k 0) → IsHeld b
-      held-left limits counts known leaves slots as_many heirs lower =
+          ((k : ℕ) → get_or b.since.items k 0 ≤ get_or a.since.items k 0) → b.order.used ≡ b.kept → IsHeld b
+      held-left limits counts known leaves slots as_many heirs lower used =
           let most = ap (λ (l : Limits). l.max_kept) limits in
           let total = w.count in
           let long = as-long in
@@ -411,6 +411,7 @@ module _ (a b : Inside) (held : IsHeld a) (slot heir : Slot) (fork : Bool) (p : 
             some = still-some;
             within = (let within = held.within in omega arith);
             inside = (let inside = held.inside in omega arith);
+            used = used;
             all = (let all = held.all in omega arith);
             few = (let few = held.few in omega arith);
             placed = subst (λ ss. list_all (λ (s : Slot). ltb s.0 (length b.nodes.items)) ss ≡ true) (sym listed)

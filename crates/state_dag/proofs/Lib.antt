@@ -46,3 +46,4 @@ pub mod LeftTables
 pub mod LeftSlots
 pub mod LeftMemory
 pub mod Heirs
+pub mod SlotOrders

@@ -55,6 +55,10 @@ module _ (a : Inside) (held : IsHeld a) where
   pub kept-long : length (kept_of a) ≡ a.kept
   kept-long = (let inside = held.inside in let long = length-take a.kept a.order.items in omega arith)
 
+  -- so many slots are in use
+  pub kept-now : take a.order.used a.order.items ≡ kept_of a
+  kept-now = ap (λ (n : ℕ). take n a.order.items) held.used
+
   -- the entries have these slots
   pub kept-slots : slots_of (seen a).entries ≡ kept_of a
   kept-slots = slots-in a.nodes.items (kept_of a) kept-placed

@@ -24,7 +24,7 @@ seen a = record {
   entries = entries_in a.nodes.items (kept_of a);
 }
 
--- the limits are valid; there is a kept state, and there are no more than may be; as many slots are listed as there are
+-- the limits are valid; there is a kept state, there are no more than may be, and so many slots are in use; as many slots are listed as there are
 -- nodes, each the place of another node, and no more than states may be kept; the kept states stand in arrival order, and
 -- all have arrived; their paths ascend and are short; their children stand in slots of kept states that arrived later; the
 -- leaves are those without a child; there is a count of 32 bits for each site, and with the root as many have arrived as are
@@ -35,6 +35,7 @@ pub record IsHeld (a : Inside) : Type 0 where
   pub some : 0 < a.kept
   pub within : a.kept ≤ a.limits.max_kept
   pub inside : a.kept ≤ length a.order.items
+  pub used : a.order.used ≡ a.kept
   pub all : length a.order.items ≡ length a.nodes.items
   pub few : length a.nodes.items ≤ a.limits.max_kept
   pub placed : IsTrue (are_places a.nodes.items a.order.items)

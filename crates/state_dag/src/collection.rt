@@ -116,13 +116,3 @@ fn forget_branches(nodes: &mut Vec<Node>, slots: &[Slot], gone: Slot)
         nodes[slot.0 as usize].path.without_fork(gone.0);
     }
 }
-
-/// Moves the slot at the place behind all others.
-pub fn free_slot(order: &mut Vec<Slot>, place: usize)
-    requires { place < length order.old.items }
-    ensures { (d : Slot) → order.new.items
-        ≡ take place order.old.items ++ drop (place + 1) order.old.items ++ slice_index_or order.old.items place d ∷ [] }
-{
-    let slot = order.remove(place);
-    order.push_reserved(slot);
-}

@@ -32,19 +32,21 @@ mod named_paths;
 mod new_paths;
 mod nodes;
 mod rooms;
+mod slot_order;
 mod slots;
 mod sums;
 mod times;
 
 use changes::{grow, put_node, set_count};
-use collection::{first_holder, free_slot, hand_over};
+use collection::{first_holder, hand_over};
 use growth::{check_path, new_node};
 use id_slots::IdSlots;
 use leads::gains;
 use named_paths::named_path;
 use nodes::{Node, first_from, is_node_above, node_at, root_node};
 use rooms::make_state_room;
-use slots::{common_slot, drop_slot, drop_slots, first_slot, list_slot, next_slot, slot_at};
+use slot_order::SlotOrder;
+use slots::{common_slot, drop_slot, drop_slots, first_slot, last_slot, next_slot, slot_at};
 use std::alloc::Global;
 use std::marker::Model;
 use tardis_base::{Above, AddFault, Limits, NoMemory, PathList, Slot, StateId};
@@ -60,8 +62,7 @@ pub struct StateDag {
     known: u64,
     /// By slot. A node in whose slot no state is kept says nothing.
     nodes: Vec<Node>,
-    /// All slots: those of the kept states in arrival order, and then those in which no state is kept.
-    order: Vec<Slot>,
+    order: SlotOrder,
     /// How many states are kept.
     kept: u32,
     leaves: Vec<Slot>,
@@ -92,8 +93,7 @@ impl StateDag {
         let counts = vec![in alloc; 0u32; limits.sites as usize]?;
         let mut nodes = Vec::new(alloc);
         nodes.push(root_node(alloc))?;
-        let mut order = Vec::new(alloc);
-        order.push(Slot(0))?;
+        let order = SlotOrder::new(alloc)?;
         let mut leaves = Vec::new(alloc);
         leaves.push(Slot(0))?;
         let mut slots = IdSlots::new(alloc);
@@ -143,7 +143,7 @@ impl StateDag {
         }
         let alloc = *self.nodes.allocator();
         let node = new_node(alloc, &self.nodes, parents, id, self.known)?;
-        let kept = &self.order[..self.kept as usize];
+        let kept = self.order.kept();
         let gains = gains(alloc, &self.nodes, kept, parents, &self.limits)?;
         check_path(&node, &self.limits)?;
         make_state_room(
@@ -161,7 +161,7 @@ impl StateDag {
         drop_slots(&self.nodes, &mut self.leaves, parents);
         grow(&mut self.nodes, parents, &gains, id, slot);
         put_node(&mut self.nodes, slot, node);
-        list_slot(&mut self.order, self.kept, slot);
+        self.order.keep(slot);
         self.leaves.push_reserved(slot);
         self.kept += 1;
         set_count(&mut self.counts, id.site, id.sequence);
@@ -176,9 +176,9 @@ impl StateDag {
     /// stand-in is, and a fork's branches are in no path any more. Records stay: the state is still a parent of its children
     /// and a child of its parents.
     ///
-    /// It takes no memory. The cost grows with the number of slots behind this one, with the number of the states that are kept
-    /// before this one from the first on whose child stands there, and with their children; and for a fork with the paths of
-    /// those kept behind it.
+    /// It takes no memory. The cost grows with the number of the states that are kept before this one from the first on whose
+    /// child stands there, and with their children; for a fork with the paths of those kept behind it; and the slots of those
+    /// kept before it, or behind it, whichever are fewer, are moved as a block.
     pub fn detach(&mut self, slot: Slot) -> Slot
         requires { IsSome (shared_slot self.old slot) }
         ensures stand_in { shared_slot self.old slot ≡ Some result }
@@ -208,11 +208,11 @@ impl StateDag {
         let is_fork = node.children.len() > 1;
         drop_slot(&self.nodes, &mut self.leaves, slot);
         self.slots.remove(id);
-        let kept = &self.order[..self.kept as usize];
+        let kept = self.order.kept();
         let first = first_holder(&self.nodes, kept, place, since);
         hand_over(&mut self.nodes, kept, first, place, slot, heir, is_fork);
         lower_time(&mut self.since, heir, since);
-        free_slot(&mut self.order, place);
+        self.order.leave(place);
         self.kept -= 1;
         heir
     }
@@ -305,7 +305,7 @@ impl StateDag {
         ensures kept { (rs : List Record) (ks : List StateId) → Stands self.now rs ks
             → map (id_at self.now) result.now ≡ map (λ x. Some x) (kept_states rs ks) }
     {
-        &self.order[..self.kept as usize]
+        self.order.kept()
     }
 
     /// The slots of the states that have no child, in arrival order. They are lent, in constant time.
@@ -322,7 +322,7 @@ impl StateDag {
         ensures end { slot_after self.now.entries (Some result) ≡ None }
         ensures last { (rs : List Record) (ks : List StateId) → Stands self.now rs ks → id_at self.now result ≡ Some (last_arrived rs) }
     {
-        self.order[self.kept as usize - 1]
+        last_slot(self.order.kept())
     }
 
     /// How many states had arrived before the one at the slot. It takes constant time.

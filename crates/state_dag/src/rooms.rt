@@ -7,6 +7,7 @@ ghost use Rattle.state_dag.specs.Nodes.{are_places, have_places, is_gaining, gai
 
 use crate::leads::Gain;
 use crate::nodes::Node;
+use crate::slot_order::SlotOrder;
 use crate::slots::make_slot_room;
 use crate::sums::in_u32;
 use crate::times::make_time_room;
@@ -16,7 +17,7 @@ use tardis_base::{NoMemory, Slot};
 /// and among the leaves.
 pub fn make_state_room(
     nodes: &mut Vec<Node>,
-    order: &mut Vec<Slot>,
+    order: &mut SlotOrder,
     leaves: &mut Vec<Slot>,
     since: &mut Vec<u64>,
     parents: &[Slot],
@@ -27,17 +28,18 @@ pub fn make_state_room(
     requires few { (k : ℕ) → gains_of k gains.now ≤ length parents.now }
     ensures same { entries_from 0 nodes.new.items ≡ entries_from 0 nodes.old.items }
     ensures order { order.new.items ≡ order.old.items }
+    ensures used { order.new.used ≡ order.old.used }
     ensures leaves { leaves.new.items ≡ leaves.old.items }
     ensures since { since.new.items ≡ since.old.items }
     ensures paths { OnOk result (HasPathRoom nodes.new.items gains.now) }
     ensures children { OnOk result (HasChildRoom nodes.new.items parents.now) }
     ensures node { OnOk result (vec_len nodes.new < vec_capacity nodes.new) }
-    ensures slot { OnOk result (vec_len order.new < vec_capacity order.new) }
+    ensures slot { OnOk result (0 < order.new.room) }
     ensures leaf { OnOk result (vec_len leaves.new < vec_capacity leaves.new) }
     ensures time { OnOk result (vec_len since.new < vec_capacity since.new) }
 {
     make_room(nodes, parents, gains)?;
-    make_slot_room(order)?;
+    order.reserve()?;
     make_time_room(since)?;
     make_slot_room(leaves)
 }

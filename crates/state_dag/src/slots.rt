@@ -1,12 +1,13 @@
 //! Which slot each kept state has.
 
-ghost use Rattle.std.specs.Prelude.{◌≡◌, ◌==◌, ◌≤◌, ◌<◌, not, filter, length, slice_get, slice_index_or, OnOk, vec_len, vec_capacity};
+ghost use Rattle.std.specs.Prelude.{◌≡◌, ◌==◌, ◌-◌, ◌≤◌, ◌<◌, not, filter, length, slice_get, slice_index_or, OnOk, vec_len, vec_capacity};
 ghost use Rattle.state_dag.specs.Shared.{common};
 ghost use Rattle.state_dag.specs.Table.{arrival_at};
 ghost use Rattle.state_dag.specs.Grown.{is_slot_among};
-ghost use Rattle.state_dag.specs.Nodes.{table_of, slot_after_all, with_slot, Rise};
+ghost use Rattle.state_dag.specs.Nodes.{table_of, slot_after_all, Rise};
 
 use crate::nodes::{Node, arrival_in, first_from};
+use crate::slot_order::SlotOrder;
 use tardis_base::{NoMemory, Slot};
 
 /// Makes room for one more slot.
@@ -19,12 +20,13 @@ pub fn make_slot_room(slots: &mut Vec<Slot>) -> Result<(), NoMemory>
     Ok(())
 }
 
-/// The slot that one more gets where so many of these are in use: the first of the others, or else the next number.
-pub fn next_slot(order: &[Slot], used: u32) -> Slot
-    ensures { result ≡ slot_after_all order.now used }
+/// The slot that one more gets where so many are in use: the first of the others, or else the next number.
+pub fn next_slot(order: &SlotOrder, used: u32) -> Slot
+    requires { order.now.used ≡ used }
+    ensures { result ≡ slot_after_all order.now.items used }
 {
-    match order.get(used as usize) {
-        Some(slot) => *slot,
+    match order.first_free() {
+        Some(slot) => slot,
         None => Slot(used),
     }
 }
@@ -34,16 +36,6 @@ pub fn slot_at(slots: &[Slot], place: usize) -> Option<Slot>
     ensures { result ≡ slice_get slots.now place }
 {
     slots.get(place).copied()
-}
-
-/// Lists the slot behind so many that are in use, where it isn't there yet.
-pub fn list_slot(order: &mut Vec<Slot>, used: u32, slot: Slot)
-    requires { vec_len order.old < vec_capacity order.old }
-    ensures { order.new.items ≡ with_slot order.old.items used slot }
-{
-    if used as usize >= order.len() {
-        order.push_reserved(slot);
-    }
 }
 
 /// Takes these out of the slots, each by a binary search. The slots stand in arrival order.
@@ -77,6 +69,14 @@ pub fn first_slot(slots: &[Slot]) -> Slot
     ensures { result ≡ slice_index_or slots.now 0 result }
 {
     slots[0]
+}
+
+/// The last of these slots.
+pub fn last_slot(slots: &[Slot]) -> Slot
+    requires { 0 < length slots.now }
+    ensures { result ≡ slice_index_or slots.now (length slots.now - 1) result }
+{
+    slots[slots.len() - 1]
 }
 
 /// The slot that all of these are, if they are one.

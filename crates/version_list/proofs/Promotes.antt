@@ -1,5 +1,5 @@
 -- What becomes of a key's versions when a state hands them on.
-use Rattle.std.proofs.Common.{◌≡◌, ℕ, ◌<◌, ◌≤◌, Bool, true, false, ◌||◌, ◌&&◌, nat_lt, nat_le, List, [], ◌∷◌, Option, Some, None, length, get_or, take, drop}
+use Rattle.std.proofs.Common.{◌≡◌, ℕ, ◌<◌, ◌≤◌, Bool, true, false, ◌||◌, ◌&&◌, nat_lt, nat_le, List, [], ◌∷◌, Option, Some, None, length, get_or, slice_set, take, drop}
 use Rattle.std.proofs.Common.{if◌then◌else◌, refl, ◌∙◌, ap, inl, inr, arith}
 use Rattle.std.specs.List.{list_all, list_any, remove, insert}
 use Rattle.std.proofs.lemmas.Bool.{and_parts, and_from, or_parts, cases_Bool, false_from_ne_true, lt-ltb, ltb-true, ltb-false, leb-true, leb-false, le-leb}
@@ -49,6 +49,18 @@ long-removed [] i e le lt = absurd (omega arith)
 long-removed (x ∷ xs) ℕ.zero e le lt = omega arith
 long-removed (x ∷ xs) (ℕ.suc i) ℕ.zero le lt = omega arith
 long-removed (x ∷ xs) (ℕ.suc i) (ℕ.suc e) le lt = let rest = long-removed xs i e (omega arith) (omega arith) in omega (arith, rest)
+
+-- what is taken out may be set before
+pub removed-set : {X : Type 0} (xs : List X) (i : ℕ) (y : X) → i < length xs → remove (slice_set xs i y) i ≡ remove xs i
+removed-set [] i y lt = absurd (omega arith)
+removed-set (x ∷ xs) ℕ.zero y lt = refl
+removed-set (x ∷ xs) (ℕ.suc i) y lt = ap (λ ys. x ∷ ys) (removed-set xs i y (omega arith))
+
+-- a place within the list is read as it is, whatever is read past the end
+pub same-read : {X : Type 0} (xs : List X) (i : ℕ) (d e : X) → i < length xs → get_or xs i d ≡ get_or xs i e
+same-read [] i d e lt = absurd (omega arith)
+same-read (x ∷ xs) ℕ.zero d e lt = refl
+same-read (x ∷ xs) (ℕ.suc i) d e lt = same-read xs i d e (omega arith)
 
 -- ===== Which versions are there
 

@@ -2,7 +2,7 @@
 
 ghost use Rattle.std.specs.Prelude.{◌≡◌, ◌≤◌, ◌<◌, ◌+◌, ◌&&◌, ◌||◌, [], ◌∷◌, ◌++◌, ℕ, List, false, length, take, drop, slice_get, bytes_eq, vec_len};
 ghost use Rattle.std.specs.Prelude.{IsTrue, IfOk, IfSome, OnOk, OnErr, None, nat_le, get_or};
-ghost use Rattle.std.specs.List.{list_any, list_all, IsDistinct};
+ghost use Rattle.std.specs.List.{list_any, list_all, insert, remove, IsDistinct};
 ghost use Rattle.std.specs.Option.{option_copied};
 ghost use Rattle.std.specs.Vec.{vec_capacity};
 ghost use Rattle.tardis_base.specs.Keys.{is_key_among, has_key, write_of};
@@ -11,10 +11,12 @@ ghost use Rattle.version_list.specs.Lists.{are_in_order, AllInOrder, AllBefore};
 ghost use Rattle.version_list.specs.Reads.{latest_version};
 ghost use Rattle.version_list.specs.Versions.{has_version_at};
 ghost use Rattle.version_list.specs.Notes.{is_key_in, are_full};
-ghost use Rattle.version_list.specs.Promoted.{promoted, promoted_if, moves};
+ghost use Rattle.version_list.specs.declared.histories.Version.{Version};
+ghost use Rattle.version_list.specs.Promoted.{at_state, promoted, promoted_if, moves};
 
 use crate::notes::{KeyChunks, keep, take_first};
 use indexmap::IndexMap;
+use shift_list::ShiftList;
 use std::alloc::Global;
 use std::collections::LinkedList;
 use std::hash::RandomState;
@@ -31,20 +33,29 @@ pub struct Version {
     pub write: Write,
 }
 
+impl Default for Version {
+    /// A version that says nothing, and takes no memory.
+    fn default() -> Version {
+        Version {
+            slot: Slot(0),
+            writer: StateId::ROOT,
+            write: Write::Delete,
+        }
+    }
+}
+
 /// The versions of one key in the order of their arrival.
 #[derive(Drop)]
 struct History {
-    versions: Vec<Version>,
+    versions: ShiftList<Version>,
 }
 
 impl Model for History {
-    ghost use Rattle.std.specs.Prelude.{◌-◌, vec_len};
-    ghost use Rattle.std.specs.Vec.{vec_capacity};
     ghost use Rattle.version_list.specs.Lists.{Listed};
 
     ghost Value = { Listed };
 
-    ghost view = { λ h. record { versions = h.versions.items; room = vec_capacity h.versions - vec_len h.versions } };
+    ghost view = { λ h. record { versions = h.versions.items; room = h.versions.room } };
 }
 
 impl History {
@@ -54,7 +65,7 @@ impl History {
         ensures room { IfOk result (λ history. 0 < history.room) }
     {
         Ok(History {
-            versions: Vec::with_capacity(alloc, 1)?,
+            versions: ShiftList::with_capacity(alloc, 1)?,
         })
     }
 
@@ -64,7 +75,7 @@ impl History {
         ensures room { OnOk result (0 < self.new.room) }
         ensures kept { self.old.room ≤ self.new.room }
     {
-        self.versions.reserve(1)?;
+        self.versions.reserve()?;
         Ok(())
     }
 
@@ -73,10 +84,7 @@ impl History {
         requires { 0 < self.old.room }
         ensures { self.new.versions ≡ self.old.versions ++ version ∷ [] }
     {
-        match self.versions.push(version) {
-            Ok(()) => {},
-            Err(_) => unreachable!(),
-        }
+        self.versions.push_reserved(version);
     }
 
     fn as_slice(&self) -> &[Version]
@@ -96,24 +104,33 @@ impl History {
         ensures moved { result ≡ moves from to self.old.versions }
         ensures room { self.old.room ≤ self.new.room }
     {
-        if let Some(place) = place_of(dag, &self.versions, from) {
-            if has_version(dag, &self.versions, to) {
+        if let Some(place) = place_of(dag, self.versions.as_slice(), from) {
+            if has_version(dag, self.versions.as_slice(), to) {
                 drop(self.versions.remove(place));
                 false
             } else {
-                let end = arrived_by(dag, &self.versions, to);
-                let moved = Version {
-                    slot: to,
-                    ..self.versions.remove(place)
-                };
-                match self.versions.insert(end - 1, moved) {
-                    Ok(()) => true,
-                    Err(_) => unreachable!(),
-                }
+                let end = arrived_by(dag, self.versions.as_slice(), to);
+                self.carry(place, end - 1, to);
+                true
             }
         } else {
             false
         }
+    }
+
+    /// Moves the version at the one place to the other, at it or behind, and to this state. It takes no memory.
+    fn carry(&mut self, from: usize, end: usize, to: Slot)
+        requires order { from ≤ end }
+        requires within { end < length self.old.versions }
+        ensures versions { (d : Version) → self.new.versions ≡ insert (remove self.old.versions from) end (at_state to (get_or self.old.versions from d)) }
+        ensures room { self.old.room ≤ self.new.room }
+    {
+        let moved = Version {
+            slot: to,
+            ..self.versions.replace(from, Version::default())
+        };
+        drop(self.versions.replace(from, moved));
+        self.versions.carry(from, end);
     }
 }
 
@@ -218,8 +235,8 @@ impl KeyLists {
     /// Moves the key's version at `from`, if there is one, to `to`, or takes it away where that has one, and answers whether
     /// one moved. It takes no memory.
     ///
-    /// The cost is that of a look-up of the key and of three binary searches among its versions, and grows with the number
-    /// of those that arrived after `from`, which are moved.
+    /// The cost is that of a look-up of the key and of three binary searches among its versions, and of moving those between
+    /// `from` and `to`, or, where one goes, those before it or behind it, whichever are fewer.
     fn promote<A: Above>(&mut self, dag: &A, key: &Key, from: Slot, to: Slot) -> bool
         requires order { AllInOrder (A.is_kept dag.now) (A.arrival_of dag.now) self.old }
         requires from { IsTrue (A.is_kept dag.now from) }

@@ -167,7 +167,8 @@ impl VersionList {
     /// Moves each version at `from` to `to`, or takes it away where `to` has a version of that key. It takes no memory.
     ///
     /// The cost grows with the number of the keys that have a version at `from`, for each with a look-up of it, with binary
-    /// searches among its versions and with the number of those that arrived after `from`, which are moved.
+    /// searches among its versions and with the moves of those between `from` and `to`, or, where one goes, of those before it
+    /// or behind it, whichever are fewer.
     pub fn promote<A: Above>(&mut self, dag: &A, from: Slot, to: Slot)
         requires order { IsInOrder (A.is_kept dag.now) (A.arrival_of dag.now) self.old }
         requires from { IsTrue (A.is_kept dag.now from) }

@@ -1,5 +1,5 @@
-use Rattle.std.proofs.Common.{◌≡◌, ◌∙◌, ◌+◌, ◌-◌, ◌++◌, ◌∷◌, [], not, ◌<◌, ◌≤◌, ℕ, true, List, ltb, length, filter, take, get_or, unwrap_or, slice_get, slice_set}
-use Rattle.std.proofs.Common.{Option, None, Result, Ok, Err, OnErr, IsTrue, refl, sym, ap, subst, arith}
+use Rattle.std.proofs.Common.{◌≡◌, ◌∙◌, ◌+◌, ◌-◌, ◌++◌, ◌∷◌, [], not, ◌<◌, ◌≤◌, ℕ, true, List, ltb, length, filter, get_or, unwrap_or, slice_get, slice_set}
+use Rattle.std.proofs.Common.{Option, None, Result, Ok, Err, OnErr, IsTrue, refl, sym, ap, ap₂, subst, arith}
 use Rattle.std.specs.List.{list_all}
 use Rattle.std.proofs.lemmas.Bool.{ne_eqb}
 use Rattle.std.proofs.lemmas.Option.{unwrap_or-slice_get}
@@ -21,7 +21,7 @@ use Rattle.state_dag.specs.Held.{kept_of, seen}
 use Rattle.state_dag.proofs.NewIds.{uncounted-none}
 use Rattle.state_dag.proofs.Following.{Follow}
 use Rattle.state_dag.proofs.Became.{Became}
-use Rattle.state_dag.proofs.Memory.{entries-long, found-all, kept-placed}
+use Rattle.state_dag.proofs.Memory.{entries-long, found-all, kept-placed, kept-now}
 use Rattle.state_dag.proofs.Calls.{slots-ascend}
 use Rattle.state_dag.proofs.LongPaths.{short-told, long-told, own-told, nothing-told}
 use Rattle.state_dag.proofs.Added.{full, added, parents-differ}
@@ -51,17 +51,17 @@ new_node-requires c =
 
 pub gains-requires-clause-places : goal.gains-requires-clause-places
 gains-requires-clause-places c =
-    subst (λ (ns : List Node). list_all (λ (s : Slot). ltb s.0 (length ns)) (take c.self.inside.kept c.deref-2.result.now) ≡ true) (sym c.deref-3.ensures.value)
+    subst (λ (ns : List Node). list_all (λ (s : Slot). ltb s.0 (length ns)) c.kept-kept.result.now ≡ true) (sym c.deref-2.ensures.value)
     (subst (λ (ss : List Slot). list_all (λ (s : Slot). ltb s.0 (length c.self.inside.nodes.items)) ss ≡ true)
-    (sym (ap (take c.self.inside.kept) c.deref-2.ensures.value)) (kept-placed c.self.inside c.self.invariant))
+    (sym (c.kept-kept.ensures ∙ kept-now c.self.inside c.self.invariant)) (kept-placed c.self.inside c.self.invariant))
 
 pub gains-requires-clause-in_order : goal.gains-requires-clause-in_order
-gains-requires-clause-in_order c = slots-ascend c.self.inside c.self.invariant c.deref-3.result.now (take c.self.inside.kept c.deref-2.result.now)
-    c.deref-3.ensures.value (ap (take c.self.inside.kept) c.deref-2.ensures.value)
+gains-requires-clause-in_order c = slots-ascend c.self.inside c.self.invariant c.deref-2.result.now c.kept-kept.result.now
+    c.deref-2.ensures.value (c.kept-kept.ensures ∙ kept-now c.self.inside c.self.invariant)
 
 pub gains-requires-clause-short : goal.gains-requires-clause-short
 gains-requires-clause-short c = short-kept c.self.inside c.self.invariant c.args.self.now c.self.view_is c.args.parents.now c.requires.slots
-    c.deref-3.result.now (take c.self.inside.kept c.deref-2.result.now) c.deref-3.ensures.value (ap (take c.self.inside.kept) c.deref-2.ensures.value)
+    c.deref-2.result.now c.kept-kept.result.now c.deref-2.ensures.value (c.kept-kept.ensures ∙ kept-now c.self.inside c.self.invariant)
 
 pub returns-in_err-gains-clause-added : goal.returns-in_err-gains-clause-added
 returns-in_err-gains-clause-added c = λ rs ks r stands is may.
@@ -78,8 +78,8 @@ returns-in_err-gains-clause-added c = λ rs ks r stands is may.
     (entry-seen c.self.inside c.self.invariant c.args.self.now c.self.view_is c.args.parents.now c.requires.slots c.deref.result.now c.args.id
     (record { 0 = 0 }) (entry_of 0 c.in_ok-node.node) c.deref.ensures.value (c.in_ok-node.ensures 0)) (λ e. omega arith) fault
     (long-told (seen a) parents n.id (length n.path.pairs) (found-all a c.self.invariant) fault
-    (long-seen c.self.inside c.self.invariant c.args.self.now c.self.view_is c.args.parents.now c.requires.slots c.deref-3.result.now
-    (take c.self.inside.kept c.deref-2.result.now) c.deref-3.ensures.value (ap (take c.self.inside.kept) c.deref-2.ensures.value) fault
+    (long-seen c.self.inside c.self.invariant c.args.self.now c.self.view_is c.args.parents.now c.requires.slots c.deref-2.result.now
+    c.kept-kept.result.now c.deref-2.ensures.value (c.kept-kept.ensures ∙ kept-now c.self.inside c.self.invariant) fault
     c.in_err-gains.ensures.long)) rs ks r stands is may)
 
 pub returns-in_err-check_path-clause-added : goal.returns-in_err-check_path-clause-added
@@ -97,8 +97,8 @@ returns-in_err-check_path-clause-added c = λ rs ks r stands is may.
     (entry-seen c.self.inside c.self.invariant c.args.self.now c.self.view_is c.args.parents.now c.requires.slots c.deref.result.now c.args.id
     (record { 0 = 0 }) (entry_of 0 c.in_ok-node.node) c.deref.ensures.value (c.in_ok-node.ensures 0)) (λ e. omega arith) fault
     (own-told (seen a) parents n.id (length n.path.pairs) (found-all a c.self.invariant) fault
-    (none-seen c.self.inside c.self.invariant c.args.self.now c.self.view_is c.args.parents.now c.requires.slots c.deref-3.result.now
-    (take c.self.inside.kept c.deref-2.result.now) c.deref-3.ensures.value (ap (take c.self.inside.kept) c.deref-2.ensures.value)
+    (none-seen c.self.inside c.self.invariant c.args.self.now c.self.view_is c.args.parents.now c.requires.slots c.deref-2.result.now
+    c.kept-kept.result.now c.deref-2.ensures.value (c.kept-kept.ensures ∙ kept-now c.self.inside c.self.invariant)
     c.in_ok-gains.ensures.long) c.in_err-check_path.ensures) rs ks r stands is may)
 
 pub make_state_room-requires-clause-places : goal.make_state_room-requires-clause-places
@@ -106,19 +106,19 @@ make_state_room-requires-clause-places c = parents-placed c.self.inside c.self.i
 
 pub make_state_room-requires-clause-gains : goal.make_state_room-requires-clause-gains
 make_state_room-requires-clause-gains c = gains-at_places c.self.inside c.self.invariant c.args.self.now c.self.view_is c.args.parents.now c.requires.slots
-    c.deref-4.result.now (c.deref-4.ensures.value ∙ gains-seen c.self.inside c.self.invariant c.args.self.now c.self.view_is c.args.parents.now
-    c.requires.slots c.deref-3.result.now (take c.self.inside.kept c.deref-2.result.now) c.deref-3.ensures.value
-    (ap (take c.self.inside.kept) c.deref-2.ensures.value) c.in_ok-gains.gains.items c.in_ok-gains.ensures.gains) c.self.inside.nodes.items refl
+    c.deref-3.result.now (c.deref-3.ensures.value ∙ gains-seen c.self.inside c.self.invariant c.args.self.now c.self.view_is c.args.parents.now
+    c.requires.slots c.deref-2.result.now c.kept-kept.result.now c.deref-2.ensures.value
+    (c.kept-kept.ensures ∙ kept-now c.self.inside c.self.invariant) c.in_ok-gains.gains.items c.in_ok-gains.ensures.gains) c.self.inside.nodes.items refl
 
 pub make_state_room-requires-clause-few : goal.make_state_room-requires-clause-few
 make_state_room-requires-clause-few c = few-gains c.self.inside c.self.invariant c.args.self.now c.self.view_is c.args.parents.now c.requires.slots
-    c.deref-4.result.now (c.deref-4.ensures.value ∙ gains-seen c.self.inside c.self.invariant c.args.self.now c.self.view_is c.args.parents.now
-    c.requires.slots c.deref-3.result.now (take c.self.inside.kept c.deref-2.result.now) c.deref-3.ensures.value
-    (ap (take c.self.inside.kept) c.deref-2.ensures.value) c.in_ok-gains.gains.items c.in_ok-gains.ensures.gains)
+    c.deref-3.result.now (c.deref-3.ensures.value ∙ gains-seen c.self.inside c.self.invariant c.args.self.now c.self.view_is c.args.parents.now
+    c.requires.slots c.deref-2.result.now c.kept-kept.result.now c.deref-2.ensures.value
+    (c.kept-kept.ensures ∙ kept-now c.self.inside c.self.invariant) c.in_ok-gains.gains.items c.in_ok-gains.ensures.gains)
 
 pub drop_slots-requires : goal.drop_slots-requires
 drop_slots-requires c = leaves-in_order c.self.inside c.self.invariant c.args.self.now c.self.view_is c.args.parents.now c.requires.slots
-    c.make_state_room.new.nodes.items c.deref-7.result.now c.make_state_room.new.leaves.items c.deref-7.ensures.value c.make_state_room.ensures.same
+    c.make_state_room.new.nodes.items c.deref-5.result.now c.make_state_room.new.leaves.items c.deref-5.ensures.value c.make_state_room.ensures.same
     c.make_state_room.ensures.leaves
 
 pub grow-requires-clause-places : goal.grow-requires-clause-places
@@ -129,9 +129,9 @@ grow-requires-clause-places c =
 
 pub grow-requires-clause-gains : goal.grow-requires-clause-gains
 grow-requires-clause-gains c = gains-at_places c.self.inside c.self.invariant c.args.self.now c.self.view_is c.args.parents.now c.requires.slots
-    c.deref-8.result.now (c.deref-8.ensures.value ∙ gains-seen c.self.inside c.self.invariant c.args.self.now c.self.view_is c.args.parents.now
-    c.requires.slots c.deref-3.result.now (take c.self.inside.kept c.deref-2.result.now) c.deref-3.ensures.value
-    (ap (take c.self.inside.kept) c.deref-2.ensures.value) c.in_ok-gains.gains.items c.in_ok-gains.ensures.gains) c.make_state_room.new.nodes.items
+    c.deref-6.result.now (c.deref-6.ensures.value ∙ gains-seen c.self.inside c.self.invariant c.args.self.now c.self.view_is c.args.parents.now
+    c.requires.slots c.deref-2.result.now c.kept-kept.result.now c.deref-2.ensures.value
+    (c.kept-kept.ensures ∙ kept-now c.self.inside c.self.invariant) c.in_ok-gains.gains.items c.in_ok-gains.ensures.gains) c.make_state_room.new.nodes.items
     (same-count c.make_state_room.new.nodes.items c.self.inside.nodes.items c.make_state_room.ensures.same)
 
 pub invariant_of-self : goal.invariant_of-self
@@ -149,7 +149,7 @@ invariant_of-self c =
       slots = a.slots;
       since = c.make_state_room.new.since;
     } in
-    held-stays a b c.self.invariant refl refl refl c.make_state_room.ensures.leaves c.make_state_room.ensures.order refl c.make_state_room.ensures.same
+    held-stays a b c.self.invariant refl refl refl c.make_state_room.ensures.leaves c.make_state_room.ensures.order refl c.make_state_room.ensures.used c.make_state_room.ensures.same
     (λ x. refl) c.make_state_room.ensures.since
 
 pub put-requires : goal.put-requires
@@ -176,7 +176,7 @@ invariant_of-self-in_err-put c =
       slots = c.put.new.self;
       since = c.make_state_room.new.since;
     } in
-    held-stays a b c.self.invariant refl refl refl c.make_state_room.ensures.leaves c.make_state_room.ensures.order refl c.make_state_room.ensures.same
+    held-stays a b c.self.invariant refl refl refl c.make_state_room.ensures.leaves c.make_state_room.ensures.order refl c.make_state_room.ensures.used c.make_state_room.ensures.same
     c.in_err-put.ensures.same c.make_state_room.ensures.since
 
 pub overflow_add-self : goal.overflow_add-self
@@ -214,7 +214,7 @@ returns-in_err-make_state_room-clause-same c =
       slots = a.slots;
       since = c.make_state_room.new.since;
     } in
-    let stays : seen b ≡ old = view-same a b c.self.invariant refl refl refl c.make_state_room.ensures.leaves c.make_state_room.ensures.order refl
+    let stays : seen b ≡ old = view-same a b c.self.invariant refl refl refl c.make_state_room.ensures.leaves c.make_state_room.ensures.order refl c.make_state_room.ensures.used
     c.make_state_room.ensures.same (λ x. refl) c.make_state_room.ensures.since old c.self.view_is in
     on_err c.from_residual-in_err-make_state_room.result (seen b ≡ old) stays
 
@@ -234,7 +234,7 @@ returns-in_err-make_state_room-clause-keeps c =
       slots = a.slots;
       since = c.make_state_room.new.since;
     } in
-    let stays : seen b ≡ old = view-same a b c.self.invariant refl refl refl c.make_state_room.ensures.leaves c.make_state_room.ensures.order refl
+    let stays : seen b ≡ old = view-same a b c.self.invariant refl refl refl c.make_state_room.ensures.leaves c.make_state_room.ensures.order refl c.make_state_room.ensures.used
     c.make_state_room.ensures.same (λ x. refl) c.make_state_room.ensures.since old c.self.view_is in
     subst (λ (t : Table). KeepsSlots old t) (sym stays) (λ s x h. h)
 
@@ -254,7 +254,7 @@ returns-in_err-make_state_room-clause-kept c =
       slots = a.slots;
       since = c.make_state_room.new.since;
     } in
-    let stays : seen b ≡ old = view-same a b c.self.invariant refl refl refl c.make_state_room.ensures.leaves c.make_state_room.ensures.order refl
+    let stays : seen b ≡ old = view-same a b c.self.invariant refl refl refl c.make_state_room.ensures.leaves c.make_state_room.ensures.order refl c.make_state_room.ensures.used
     c.make_state_room.ensures.same (λ x. refl) c.make_state_room.ensures.since old c.self.view_is in
     subst (λ (t : Table). (s : Slot) → IsTrue (is_kept_at old s) → IsTrue (is_kept_at t s) × (arrival_at t s ≡ arrival_at old s)) (sym stays) (λ s h. (h, refl))
 
@@ -274,7 +274,7 @@ returns-in_err-make_state_room-clause-added c = λ rs ks r stands is may.
       slots = a.slots;
       since = c.make_state_room.new.since;
     } in
-    let stays : seen b ≡ old = view-same a b c.self.invariant refl refl refl c.make_state_room.ensures.leaves c.make_state_room.ensures.order refl
+    let stays : seen b ≡ old = view-same a b c.self.invariant refl refl refl c.make_state_room.ensures.leaves c.make_state_room.ensures.order refl c.make_state_room.ensures.used
     c.make_state_room.ensures.same (λ x. refl) c.make_state_room.ensures.since old c.self.view_is in
     let p = err_from_is_err_and c.from_residual-in_err-make_state_room.result c.from_residual-in_err-make_state_room.ensures.1 in
     let wrong : AddFault → Result Slot AddFault = λ f. Err f in
@@ -296,7 +296,7 @@ returns-in_err-put-clause-same c =
       slots = c.put.new.self;
       since = c.make_state_room.new.since;
     } in
-    let stays : seen b ≡ old = view-same a b c.self.invariant refl refl refl c.make_state_room.ensures.leaves c.make_state_room.ensures.order refl
+    let stays : seen b ≡ old = view-same a b c.self.invariant refl refl refl c.make_state_room.ensures.leaves c.make_state_room.ensures.order refl c.make_state_room.ensures.used
     c.make_state_room.ensures.same c.in_err-put.ensures.same c.make_state_room.ensures.since old c.self.view_is in
     on_err c.from_residual-in_err-put.result (seen b ≡ old) stays
 
@@ -316,7 +316,7 @@ returns-in_err-put-clause-keeps c =
       slots = c.put.new.self;
       since = c.make_state_room.new.since;
     } in
-    let stays : seen b ≡ old = view-same a b c.self.invariant refl refl refl c.make_state_room.ensures.leaves c.make_state_room.ensures.order refl
+    let stays : seen b ≡ old = view-same a b c.self.invariant refl refl refl c.make_state_room.ensures.leaves c.make_state_room.ensures.order refl c.make_state_room.ensures.used
     c.make_state_room.ensures.same c.in_err-put.ensures.same c.make_state_room.ensures.since old c.self.view_is in
     subst (λ (t : Table). KeepsSlots old t) (sym stays) (λ s x h. h)
 
@@ -336,7 +336,7 @@ returns-in_err-put-clause-kept c =
       slots = c.put.new.self;
       since = c.make_state_room.new.since;
     } in
-    let stays : seen b ≡ old = view-same a b c.self.invariant refl refl refl c.make_state_room.ensures.leaves c.make_state_room.ensures.order refl
+    let stays : seen b ≡ old = view-same a b c.self.invariant refl refl refl c.make_state_room.ensures.leaves c.make_state_room.ensures.order refl c.make_state_room.ensures.used
     c.make_state_room.ensures.same c.in_err-put.ensures.same c.make_state_room.ensures.since old c.self.view_is in
     subst (λ (t : Table). (s : Slot) → IsTrue (is_kept_at old s) → IsTrue (is_kept_at t s) × (arrival_at t s ≡ arrival_at old s)) (sym stays) (λ s h. (h, refl))
 
@@ -356,7 +356,7 @@ returns-in_err-put-clause-added c = λ rs ks r stands is may.
       slots = c.put.new.self;
       since = c.make_state_room.new.since;
     } in
-    let stays : seen b ≡ old = view-same a b c.self.invariant refl refl refl c.make_state_room.ensures.leaves c.make_state_room.ensures.order refl
+    let stays : seen b ≡ old = view-same a b c.self.invariant refl refl refl c.make_state_room.ensures.leaves c.make_state_room.ensures.order refl c.make_state_room.ensures.used
     c.make_state_room.ensures.same c.in_err-put.ensures.same c.make_state_room.ensures.since old c.self.view_is in
     let p = err_from_is_err_and c.from_residual-in_err-put.result c.from_residual-in_err-put.ensures.1 in
     let wrong : AddFault → Result Slot AddFault = λ f. Err f in
@@ -371,17 +371,17 @@ is-next c =
     let one = (same-count c.make_state_room.new.nodes.items c.self.inside.nodes.items c.make_state_room.ensures.same) in
     let two = c.grow.ensures.count in
     next-slot a c.self.invariant c.next_slot-slot.result (c.next_slot-slot.ensures
-    ∙ ap (λ (ss : List Slot). slot_after_all ss a.kept) (c.deref-5.ensures.value ∙ c.make_state_room.ensures.order)) c.grow.new.nodes.items
+    ∙ ap (λ (ss : List Slot). slot_after_all ss a.kept) c.make_state_room.ensures.order) c.grow.new.nodes.items
     c.in_ok-node.node (omega arith) (omega arith)
 
 -- what became of each entry
 follows : (c : goal.After-drop-gains-2) → Follow (Became (seen c.self.inside) c.args.parents.now c.args.id c.next_slot-slot.result)
     (seen c.self.inside).entries (entries_in c.grow.new.nodes.items (kept_of c.self.inside))
 follows c =
-    all-grown c.self.inside c.self.invariant c.args.self.now c.self.view_is c.args.parents.now c.requires.slots c.deref-8.result.now
-    (c.deref-8.ensures.value ∙ gains-seen c.self.inside c.self.invariant c.args.self.now c.self.view_is c.args.parents.now c.requires.slots
-    c.deref-3.result.now (take c.self.inside.kept c.deref-2.result.now) c.deref-3.ensures.value
-    (ap (take c.self.inside.kept) c.deref-2.ensures.value) c.in_ok-gains.gains.items c.in_ok-gains.ensures.gains) c.make_state_room.new.nodes.items
+    all-grown c.self.inside c.self.invariant c.args.self.now c.self.view_is c.args.parents.now c.requires.slots c.deref-6.result.now
+    (c.deref-6.ensures.value ∙ gains-seen c.self.inside c.self.invariant c.args.self.now c.self.view_is c.args.parents.now c.requires.slots
+    c.deref-2.result.now c.kept-kept.result.now c.deref-2.ensures.value
+    (c.kept-kept.ensures ∙ kept-now c.self.inside c.self.invariant) c.in_ok-gains.gains.items c.in_ok-gains.ensures.gains) c.make_state_room.new.nodes.items
     c.grow.new.nodes.items c.in_ok-node.node c.args.id c.next_slot-slot.result c.make_state_room.ensures.same c.grow.ensures.count c.grow.ensures.each
 
 same-nodes : (c : goal.After-drop-gains-2) → length c.grow.new.nodes.items ≡ length c.self.inside.nodes.items
@@ -394,15 +394,27 @@ inside-next c = record {
   known = c.self.inside.known + 1;
   nodes =
       c.put_node.new.nodes;
-  order = c.list_slot.new.order;
+  order = c.keep.new.self;
   kept = c.self.inside.kept + 1;
   leaves = c.push_reserved.new.self;
   slots = c.put.new.self;
   since = c.put_time.new.since;
 }
 
-listed : (c : goal.After-drop-gains-2) → c.list_slot.new.order.items ≡ with_slot c.self.inside.order.items c.self.inside.kept c.next_slot-slot.result
-listed c = c.list_slot.ensures ∙ ap (λ (ss : List Slot). with_slot ss c.self.inside.kept c.next_slot-slot.result) c.make_state_room.ensures.order
+listed : (c : goal.After-drop-gains-2) → c.keep.new.self.items ≡ with_slot c.self.inside.order.items c.self.inside.kept c.next_slot-slot.result
+listed c = c.keep.ensures.items
+    ∙ ap₂ (λ (ss : List Slot) (n : ℕ). with_slot ss n c.next_slot-slot.result) c.make_state_room.ensures.order
+    (c.make_state_room.ensures.used ∙ c.self.invariant.used)
+
+used-next : (c : goal.After-drop-gains-2) → c.keep.new.self.used ≡ c.self.inside.kept + 1
+used-next c = c.keep.ensures.used ∙ ap (λ (n : ℕ). n + 1) (c.make_state_room.ensures.used ∙ c.self.invariant.used)
+
+pub next_slot-slot-requires : goal.next_slot-slot-requires
+next_slot-slot-requires c = c.make_state_room.ensures.used ∙ c.self.invariant.used
+
+pub keep-requires-clause-slot : goal.keep-requires-clause-slot
+keep-requires-clause-slot c = c.next_slot-slot.ensures
+    ∙ ap (slot_after_all c.make_state_room.new.order.items) (sym (c.make_state_room.ensures.used ∙ c.self.invariant.used))
 
 entries-next : (c : goal.After-drop-gains-2) → (seen (inside-next c)).entries ≡ entries_in c.grow.new.nodes.items (kept_of c.self.inside)
     ++ entry_of c.next_slot-slot.result.0 c.in_ok-node.node ∷ []
@@ -429,7 +441,7 @@ put_node-requires-clause-slot c =
     let one = (same-count c.make_state_room.new.nodes.items c.self.inside.nodes.items c.make_state_room.ensures.same) in
     let two = c.grow.ensures.count in
     let next = next-slot a c.self.invariant c.next_slot-slot.result
-    (c.next_slot-slot.ensures ∙ ap (λ (ss : List Slot). slot_after_all ss a.kept) (c.deref-5.ensures.value ∙ c.make_state_room.ensures.order))
+    (c.next_slot-slot.ensures ∙ ap (λ (ss : List Slot). slot_after_all ss a.kept) c.make_state_room.ensures.order)
     c.grow.new.nodes.items c.in_ok-node.node (omega arith) (omega arith) in
     let inside = next.within in
     omega arith
@@ -440,7 +452,7 @@ put_time-requires-clause-slot c =
     let within = c.self.invariant.within in
     let has_room = c.if-self.false in
     let next = next-slot a c.self.invariant c.next_slot-slot.result
-    (c.next_slot-slot.ensures ∙ ap (λ (ss : List Slot). slot_after_all ss a.kept) (c.deref-5.ensures.value ∙ c.make_state_room.ensures.order))
+    (c.next_slot-slot.ensures ∙ ap (λ (ss : List Slot). slot_after_all ss a.kept) c.make_state_room.ensures.order)
     a.nodes.items c.in_ok-node.node (omega arith) (omega arith) in
     let inside = next.within in
     let times = c.self.invariant.times in
@@ -451,8 +463,8 @@ put_time-requires-clause-slot c =
 early-nodes : (c : goal.After-drop-gains-2) → (k : ℕ) → is_slot_among (record { 0 = k }) c.args.parents.now ≡ true →
     c.first_arrival-since.result ≤ arrival_at (table_of c.self.inside.nodes.items) (record { 0 = k })
 early-nodes c k there =
-    let same : table_of c.deref-6.result.now ≡ table_of c.self.inside.nodes.items =
-    ap table_of c.deref-6.ensures.value ∙ ap (λ es. record (table_of c.self.inside.nodes.items) { entries = es }) c.make_state_room.ensures.same in
+    let same : table_of c.deref-4.result.now ≡ table_of c.self.inside.nodes.items =
+    ap table_of c.deref-4.ensures.value ∙ ap (λ es. record (table_of c.self.inside.nodes.items) { entries = es }) c.make_state_room.ensures.same in
     among-passes (arrival_at (table_of c.self.inside.nodes.items)) c.first_arrival-since.result c.args.parents.now
     (subst (λ (t : Table). (i : ℕ) (d : Slot) → i < length c.args.parents.now → c.first_arrival-since.result ≤ arrival_at t (get_or c.args.parents.now i d))
     same c.first_arrival-since.ensures) k there
@@ -475,10 +487,10 @@ invariant_of-self-2 c =
     c.in_ok-put.ensures.put
     (c.push_reserved.ensures.items ∙ ap (λ (ss : List Slot). ss ++ slot ∷ [])
     (c.drop_slots.ensures.items ∙ ap (filter (λ (s : Slot). not (is_slot_among s parents))) c.make_state_room.ensures.leaves))
-    (omega arith) entry.id_is (entry.arrival_is ∙ sym (ap (λ (t : Table). t.known) c.self.view_is)) entry.no_children entry.no_stand_ins entry.path.ascending
+    (omega arith) (used-next c) entry.id_is (entry.arrival_is ∙ sym (ap (λ (t : Table). t.known) c.self.view_is)) entry.no_children entry.no_stand_ins entry.path.ascending
     (short-told (seen a) parents n.id (length n.path.pairs) (found-all a c.self.invariant)
-    (none-seen c.self.inside c.self.invariant c.args.self.now c.self.view_is c.args.parents.now c.requires.slots c.deref-3.result.now
-    (take c.self.inside.kept c.deref-2.result.now) c.deref-3.ensures.value (ap (take c.self.inside.kept) c.deref-2.ensures.value)
+    (none-seen c.self.inside c.self.invariant c.args.self.now c.self.view_is c.args.parents.now c.requires.slots c.deref-2.result.now
+    c.kept-kept.result.now c.deref-2.ensures.value (c.kept-kept.ensures ∙ kept-now c.self.inside c.self.invariant)
     c.in_ok-gains.ensures.long)) c.in_ok-check_path.ensures (let first = c.requires.first in let last = c.requires.last in omega arith)
     (c.requires.next ∙ ap (λ (m : ℕ). m + 1) (unwrap_or-slice_get c.args.self.now.counts i 0
     ∙ ap (λ (t : Table). get_or t.counts i 0) (sym c.self.view_is))) c.set_count.ensures.fits refl refl
@@ -569,8 +581,8 @@ returns-clause-added c = λ rs ks r stands is may.
     let has_room = c.if-self.false in
     omega arith) in
     let told = nothing-told (seen a) parents n.id (length n.path.pairs) (found-all a c.self.invariant)
-    (none-seen c.self.inside c.self.invariant c.args.self.now c.self.view_is c.args.parents.now c.requires.slots c.deref-3.result.now
-    (take c.self.inside.kept c.deref-2.result.now) c.deref-3.ensures.value (ap (take c.self.inside.kept) c.deref-2.ensures.value)
+    (none-seen c.self.inside c.self.invariant c.args.self.now c.self.view_is c.args.parents.now c.requires.slots c.deref-2.result.now
+    c.kept-kept.result.now c.deref-2.ensures.value (c.kept-kept.ensures ∙ kept-now c.self.inside c.self.invariant)
     c.in_ok-gains.ensures.long) c.in_ok-check_path.ensures in
     let seen_told = subst (λ (t : Table). path_refusal t n.id parents (length n.path.pairs) ≡ None) c.self.view_is told in
     let named = subst (λ (x : StateId). path_refusal old x parents (length n.path.pairs) ≡ None) entry.id_is seen_told in

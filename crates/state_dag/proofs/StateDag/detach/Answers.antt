@@ -17,7 +17,7 @@ use Rattle.state_dag.specs.Views.{entry_of, entries_in}
 use Rattle.state_dag.specs.Held.{kept_of, seen, IsHeld}
 use Rattle.state_dag.specs.Shared.{common}
 use Rattle.state_dag.specs.Detached.{shared_slot, passing_on, forgetting, changed_at}
-use Rattle.state_dag.proofs.Memory.{kept-placed, kept-long, kept-slots, entries-long, entries-apart, entry-kept, slot-place, take-read}
+use Rattle.state_dag.proofs.Memory.{kept-placed, kept-long, kept-now, kept-slots, entries-long, entries-apart, entry-kept, slot-place, take-read}
 use Rattle.state_dag.proofs.Calls.{slots-ascend}
 use Rattle.state_dag.proofs.AddSteps.{leaves-in_order}
 use Rattle.state_dag.proofs.LeftTables.{HasLeft, left-detached, left-above, left-shared, left-gone, left-names, left-others, left-kept, left-arrives}
@@ -47,8 +47,8 @@ index-since-requires c =
     omega (arith, c.self.inside.since.ok.0)
 
 pub first_holder-first-requires : goal.first_holder-first-requires
-first_holder-first-requires c = slots-ascend c.self.inside c.self.invariant c.deref-3.result.now (take c.self.inside.kept c.deref-2.result.now)
-    c.deref-3.ensures.value (ap (take c.self.inside.kept) c.deref-2.ensures.value)
+first_holder-first-requires c = slots-ascend c.self.inside c.self.invariant c.deref-2.result.now c.kept-kept.result.now
+    c.deref-2.ensures.value (c.kept-kept.ensures ∙ kept-now c.self.inside c.self.invariant)
 
 pub hand_over-requires-clause-none : goal.hand_over-requires-clause-none
 hand_over-requires-clause-none c = λ k d there.
@@ -56,14 +56,14 @@ hand_over-requires-clause-none c = λ k d there.
     let lt = slot-timed a c.self.invariant c.args.self.now c.self.view_is c.args.slot (ap is_some c.node-node.ensures.entry) in
     let time : c.index-since.result.now ≡ get_or a.since.items c.args.slot.0 0 = c.index-since.ensures
     ∙ same-default a.since.items c.args.slot.0 c.index-since.result.now 0 lt in
-    let kept = ap (take a.kept) c.deref-2.ensures.value in
+    let kept = c.kept-kept.ensures ∙ kept-now a c.self.invariant in
     unchanged-before a c.self.invariant c.args.slot c.first_slot-heir.result c.first_holder-first.result c.place-place.result
     c.first_holder-first.ensures.within
     (subst (λ (m : ℕ). (i : ℕ) (e : Slot) → i < c.first_holder-first.result → arrival_at (table_of a.nodes.items) (get_or (kept_of a) i e) < m) time
     (subst (λ (ss : List Slot). (i : ℕ) (e : Slot) → i < c.first_holder-first.result → arrival_at (table_of a.nodes.items) (get_or ss i e)
     < c.index-since.result.now) kept
     (subst (λ (ns : List Node). (i : ℕ) (e : Slot) → i < c.first_holder-first.result → arrival_at (table_of ns)
-    (get_or (take a.kept c.deref-2.result.now) i e) < c.index-since.result.now) c.deref-3.ensures.value c.first_holder-first.ensures.before)))
+    (get_or c.kept-kept.result.now i e) < c.index-since.result.now) c.deref-2.ensures.value c.first_holder-first.ensures.before)))
     k d (subst (λ (ss : List Slot). is_slot_among (record { 0 = k }) (take c.first_holder-first.result (take c.place-place.result ss)) ≡ true) kept there)
 
 pub lower_time-requires : goal.lower_time-requires
@@ -88,7 +88,7 @@ lowered c =
 pub hand_over-requires-clause-places : goal.hand_over-requires-clause-places
 hand_over-requires-clause-places c =
     subst (λ (ss : List Slot). list_all (λ (s : Slot). ltb s.0 (length c.self.inside.nodes.items)) ss ≡ true)
-    (sym (ap (take c.self.inside.kept) c.deref-2.ensures.value)) (kept-placed c.self.inside c.self.invariant)
+    (sym (c.kept-kept.ensures ∙ kept-now c.self.inside c.self.invariant)) (kept-placed c.self.inside c.self.invariant)
 
 pub hand_over-requires-clause-place : goal.hand_over-requires-clause-place
 hand_over-requires-clause-place c =
@@ -97,16 +97,16 @@ hand_over-requires-clause-place c =
     let same = ap (λ (t : Table). length t.entries) c.self.view_is in
     let entries = entries-long a c.self.invariant in
     let kept = kept-long a c.self.invariant in
-    let read = ap (λ (ss : List Slot). length (take a.kept ss)) c.deref-2.ensures.value in
+    let read = ap length (c.kept-kept.ensures ∙ kept-now a c.self.invariant) in
     omega arith
 
-pub free_slot-requires : goal.free_slot-requires
-free_slot-requires c =
+pub leave-requires : goal.leave-requires
+leave-requires c =
     let a = c.self.inside in
     let within = c.place-place.ensures.within in
     let same = ap (λ (t : Table). length t.entries) c.self.view_is in
     let entries = entries-long a c.self.invariant in
-    let inside = c.self.invariant.inside in
+    let used = c.self.invariant.used in
     omega arith
 
 -- what the memory is afterwards
@@ -117,7 +117,7 @@ inside-left c = record {
   known = c.self.inside.known;
   nodes = c.hand_over.new.nodes;
   order =
-      c.free_slot.new.order;
+      c.leave.new.self;
   kept = c.self.inside.kept - 1;
   leaves = c.drop_slot.new.slots;
   slots = c.remove.new.self;
@@ -157,12 +157,12 @@ each-changed c =
     entry_of k (get_or c.hand_over.new.nodes.items k e) ≡ changed_at (forgetting c.args.slot (ltb 1 c.len-is_fork.result))
     (drop (c.place-place.result + 1) ss) (changed_at (passing_on c.args.slot c.first_slot-heir.result) (take c.place-place.result ss)
     (entry_of k (get_or c.self.inside.nodes.items k e))))
-    (ap (take c.self.inside.kept) c.deref-2.ensures.value) c.hand_over.ensures.each
+    (c.kept-kept.ensures ∙ kept-now c.self.inside c.self.invariant) c.hand_over.ensures.each
 
-freed : (c : goal.After-self-1) → c.free_slot.new.order.items ≡ take c.place-place.result c.self.inside.order.items
+freed : (c : goal.After-self-1) → c.leave.new.self.items ≡ take c.place-place.result c.self.inside.order.items
     ++ (drop (c.place-place.result + 1) c.self.inside.order.items ++ c.args.slot ∷ [])
 freed c =
-    c.free_slot.ensures c.args.slot
+    c.leave.ensures.items c.args.slot
     ∙ append_assoc (take c.place-place.result c.self.inside.order.items) (drop (c.place-place.result + 1) c.self.inside.order.items)
     (get_or c.self.inside.order.items c.place-place.result c.args.slot ∷ [])
     ∙ ap (λ (s : Slot). take c.place-place.result c.self.inside.order.items ++ (drop (c.place-place.result + 1) c.self.inside.order.items ++ s ∷ []))
@@ -239,6 +239,7 @@ invariant_of-self c =
     (subst (λ (z : StateId). (x : StateId) → slot_of_state c.remove.new.self x ≡ cond (same_id x z) None (slot_of_state a.slots x))
     (ap (λ (e : Entry). e.id) (node-read c)) c.remove.ensures)
     c.lower_time.ensures.count (lowered c) c.lower_time.ensures.lower
+    (let left = c.leave.ensures.used in let used = c.self.invariant.used in omega arith)
 
 pub returns-clause-detached : goal.returns-clause-detached
 returns-clause-detached c = left-detached c.args.self.now (seen (inside-left c)) c.args.slot c.first_slot-heir.result (has-left-now c)

@@ -1,14 +1,14 @@
-use Rattle.std.proofs.Common.{◌≡◌, ◌∙◌, map, take, true, sym, ap, subst}
+use Rattle.std.proofs.Common.{◌≡◌, ◌∙◌, map, true, sym, ap, subst}
 use Rattle.std.specs.List.{list_all}
 use Rattle.state_dag.specs.Table.{Table, Entry, id_at, is_slot}
 use Rattle.state_dag.proofs.Calls.{entries-found}
-use Rattle.state_dag.proofs.Memory.{kept-slots}
+use Rattle.state_dag.proofs.Memory.{kept-slots, kept-now}
 use Rattle.state_dag.proofs.LeafSlots.{slots-are, kept-slots-name}
 use Rattle.state_dag.proofs.StateDag.kept_slots.Goals as goal
 
 pub returns-clause-is : goal.returns-clause-is
 returns-clause-is c =
-    ap (take c.self.inside.kept) c.deref.ensures.value ∙ sym (kept-slots c.self.inside c.self.invariant)
+    c.kept.ensures ∙ kept-now c.self.inside c.self.invariant ∙ sym (kept-slots c.self.inside c.self.invariant)
     ∙ ap (λ (t : Table). map (λ (e : Entry). e.slot) t.entries) c.self.view_is
 
 pub returns-clause-slots : goal.returns-clause-slots

@@ -33,9 +33,8 @@ returns-clause-stands c =
     let n = c.root_node.result in
     let r = c.root_node.ensures in
     let one : c.push.new.self.items ≡ n ∷ [] = c.in_ok-push.ensures.items ∙ ap (λ zs. zs ++ n ∷ []) c.new-nodes.ensures.items in
-    let two : c.push-2.new.self.items ≡ record { 0 = 0 } ∷ [] = c.in_ok-push-2.ensures.items
-    ∙ ap (λ ss. ss ++ record { 0 = 0 } ∷ []) c.new-order.ensures.items in
-    let seen = seen-root c.push.new.self.items c.push-2.new.self.items n one two in
+    let two = c.in_ok-order.ensures.items in
+    let seen = seen-root c.push.new.self.items c.in_ok-order.order.items n one two in
     let table : List Entry → Table = λ es. record { limits = c.args.limits.now; counts = c.in_ok-counts.counts.items; known = 1; entries = es } in
     subst (λ es. Stands (table es) (root_record ∷ []) []) (sym seen)
     (stands-opening c.args.limits.now c.in_ok-counts.counts.items (entry_of 0 n) c.requires (c.in_ok-counts.ensures.items_if_clones_equal (λ y e. e))
@@ -51,9 +50,8 @@ invariant_of-result c =
     let r = c.root_node.ensures in
     let limits = c.args.limits.now in
     let one : c.push.new.self.items ≡ n ∷ [] = c.in_ok-push.ensures.items ∙ ap (λ zs. zs ++ n ∷ []) c.new-nodes.ensures.items in
-    let two : c.push-2.new.self.items ≡ record { 0 = 0 } ∷ [] = c.in_ok-push-2.ensures.items
-    ∙ ap (λ ss. ss ++ record { 0 = 0 } ∷ []) c.new-order.ensures.items in
-    let view = seen-root c.push.new.self.items c.push-2.new.self.items n one two in
+    let two = c.in_ok-order.ensures.items in
+    let view = seen-root c.push.new.self.items c.in_ok-order.order.items n one two in
     let long = ap length one in
     let listed = ap length two in
     let zeros = c.in_ok-counts.ensures.items_if_clones_equal (λ y e. e) in
@@ -65,6 +63,7 @@ invariant_of-result c =
       some = omega arith;
       within = omega arith;
       inside = omega arith;
+      used = c.in_ok-order.ensures.used;
       all = omega arith;
       few = omega arith;
       placed = subst (λ ss. list_all (λ (s : Slot). ltb s.0 (length c.push.new.self.items)) ss ≡ true) (sym two)
@@ -90,7 +89,7 @@ invariant_of-result c =
           n.stand_ins.items) true
           (ap (list_all (λ (s : Slot). ltb n.arrival
           (option_map_or (λ (f : Entry). f.arrival) (find (λ (f : Entry). eqb f.slot.0 s.0) (entry_of 0 n ∷ [])) 0))) r.stand_ins) refl);
-      childless = c.in_ok-push-3.ensures.items ∙ ap (λ ss. ss ++ record { 0 = 0 } ∷ []) c.new-leaves.ensures.items
+      childless = c.in_ok-push-2.ensures.items ∙ ap (λ ss. ss ++ record { 0 = 0 } ∷ []) c.new-leaves.ensures.items
           ∙ sym (ap childless_slots view ∙ leaves-last [] (entry_of 0 n) r.children);
       sites = ap length zeros ∙ length-replicate limits.sites 0;
       fit = subst (λ cs. list_all (λ m. ltb m 4294967296) cs ≡ true) (sym zeros) (fits-none limits.sites);
@@ -99,11 +98,11 @@ invariant_of-result c =
           (and_from (is_counted c.in_ok-counts.counts.items n.id) true
           (subst (λ z. is_counted c.in_ok-counts.counts.items z ≡ true) (sym r.id) (le-leb 0 (get_or c.in_ok-counts.counts.items 0 0) (omega arith))) refl);
       once = subst (λ (es : List Entry). AllDiffer (map (λ (e : Entry). e.id) es)) (sym view) (refl, tt);
-      times = (let one_time = ap length (c.in_ok-push-4.ensures.items ∙ ap (λ ts. ts ++ 0 ∷ []) c.new-since.ensures.items) in omega arith);
-      since = subst (λ (es : List Entry). list_all (λ (e : Entry). list_all (λ (s : Slot). leb (get_or c.push-4.new.self.items s.0 0) e.arrival) e.stand_ins) es
+      times = (let one_time = ap length (c.in_ok-push-3.ensures.items ∙ ap (λ ts. ts ++ 0 ∷ []) c.new-since.ensures.items) in omega arith);
+      since = subst (λ (es : List Entry). list_all (λ (e : Entry). list_all (λ (s : Slot). leb (get_or c.push-3.new.self.items s.0 0) e.arrival) e.stand_ins) es
           ≡ true) (sym view)
-          (and_from (list_all (λ (s : Slot). leb (get_or c.push-4.new.self.items s.0 0) n.arrival) n.stand_ins.items) true
-          (ap (list_all (λ (s : Slot). leb (get_or c.push-4.new.self.items s.0 0) n.arrival)) r.stand_ins) refl);
+          (and_from (list_all (λ (s : Slot). leb (get_or c.push-3.new.self.items s.0 0) n.arrival) n.stand_ins.items) true
+          (ap (list_all (λ (s : Slot). leb (get_or c.push-3.new.self.items s.0 0) n.arrival)) r.stand_ins) refl);
       indexed = λ x.
           c.in_ok-put.ensures.put x
           ∙ ap (λ sites. cond (same_id x root) (Some (record { 0 = 0 })) (slot_of_state sites x)) c.new-slots.ensures

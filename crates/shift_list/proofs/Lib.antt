@@ -1,0 +1,2 @@
+-- Laws of lists of which a part was turned.
+pub mod Turned

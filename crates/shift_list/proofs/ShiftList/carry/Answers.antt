@@ -1,0 +1,35 @@
+use Rattle.std.proofs.Common.{◌≡◌, ap, ◌∙◌, ◌+◌, ◌-◌, ◌++◌, arith, length, List, take, drop, get_or}
+use Rattle.std.specs.List.{insert, remove}
+use Rattle.std.proofs.lemmas.List.{length-drop, length-take, take-append-le, take_all}
+use Rattle.shift_list.specs.Shifted.{Shifted}
+use Rattle.shift_list.proofs.Turned.{turned, turned-long}
+use Rattle.shift_list.proofs.ShiftList.carry.Goals as goal
+
+pub returns-clause-items : goal.returns-clause-items
+returns-clause-items g c = λ d.
+    let b = c.self.inside.blank in
+    let f = c.args.from in
+    let t = c.args.to in
+    let ps = c.self.inside.places.items in
+    let k = b + t + 1 - (b + f) in
+    let ys = c.rotate_left.new.self in
+    let now = c.deref_mut.result.now in
+    let all : now ≡ ps = c.deref_mut.ensures.value in
+    let same = ap (λ (l : Shifted g.row.T.Denot). l.items) c.self.view_is in
+    let long = ap length same in
+    let rest = length-drop b ps in
+    let within = c.requires.within in
+    let order = c.requires.order in
+    let count = ap length all in
+    let mid = length-take k (drop (b + f) now) in
+    let from = length-drop (b + f) now in
+    let part = c.rotate_left.ensures.len in
+    let whole = take (b + f) now ++ (ys ++ drop k (drop (b + f) now)) in
+    let kept = turned-long (b + f) k now ys (omega arith) (omega arith) in
+    let ok = c.self.inside.places.ok.0 in
+    let back : take c.self.inside.places.len (whole ++ drop (length whole) ps) ≡ whole =
+    take-append-le c.self.inside.places.len whole (drop (length whole) ps) (omega arith)
+    ∙ take_all c.self.inside.places.len whole (omega arith) in
+    ap (drop b) back
+    ∙ turned b f t k now ys d (omega arith) order (omega arith) c.rotate_left.ensures.after
+    ∙ ap (λ (l : List g.row.T.Denot). insert (remove l f) t (get_or l f d)) (ap (drop b) all ∙ same)

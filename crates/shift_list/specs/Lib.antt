@@ -1,0 +1,2 @@
+-- What a list in one piece is seen as.
+pub mod Shifted
