@@ -11,11 +11,8 @@ ghost use Rattle.export_run.specs.Silence.{SilentMay, Led};
 use frame_cut::event;
 use site_run::{Gathered, Responder, answer_frames};
 use std::alloc::Global;
-use tardis_base::{Machine, NoMemory, ReplyBuf};
+use tardis_base::{Machine, NO_MEMORY, NoMemory, ReplyBuf};
 use tardis_io::{Failed, Pair, Sink, Source, Status};
-
-/// The reply that memory is wanting.
-const WANTING: [u8; 1] = [22];
 
 /// Answers each body by no bytes; where the machine finds no memory, by the reply that says so.
 #[derive(Drop)]
@@ -40,7 +37,7 @@ impl<M: Machine> Responder<M> for Silence {
         let (actor, request) = event(body);
         match subject.act(actor, request, &mut self.reply) {
             Ok(()) => {}
-            Err(NoMemory) => out.put(&WANTING),
+            Err(NoMemory) => out.put(&NO_MEMORY),
         }
     }
 }

@@ -2,9 +2,8 @@
 #![tactic(auto)]
 
 ghost use Rattle.std.specs.Prelude.{◌≡◌, ◌≤◌, ◌==◌, ◌&&◌, ◌↔◌, not, [], ◌∷◌, length, if◌then◌else◌, IsTrue, IsOk, IfOk, IfErr, OnOk, OnErr};
-ghost use Rattle.std.specs.Option.{option_copied};
 ghost use Rattle.tardis_base.specs.Sizes.{most_reads, most_writes};
-ghost use Rattle.tardis_base.specs.Keys.{is_key_among, has_key, with_key, write_of, with_write};
+ghost use Rattle.tardis_base.specs.Keys.{is_key_among, has_key, with_key, with_write};
 ghost use Rattle.merge_txn.specs.Txns.{writes_of, reads_of, with_writes, with_reads, has_no_place_to_write, has_no_place_to_read, too_many_writes};
 ghost use Rattle.merge_txn.specs.Txns.{too_many_reads, put_fault, read_fault};
 
@@ -82,13 +81,6 @@ impl Txn {
             Txn::Single(txn) => &txn.writes,
             Txn::Merge(txn) => &txn.writes,
         }
-    }
-
-    /// What it itself has written to the key; None exactly where it has written nothing.
-    pub fn own(&self, key: &Key) -> Option<&Write>
-        ensures { option_copied result ≡ write_of key.now (writes_of self.now) }
-    {
-        self.writes().get(key)
     }
 
     /// Takes the write, in place of what was written to the key. On a fault the transaction is as before, and the write is dropped.

@@ -19,6 +19,7 @@ use Rattle.session_serve.proofs.Turning.{turns_on, replies_on, places_ascend}
 use Rattle.session_serve.proofs.Stepping.{Stepped, stepped}
 use Rattle.session_serve.proofs.Going.{places_behind}
 use Rattle.session_serve.proofs.Talking.{Chained, chained, session_then}
+use Rattle.wire_talk.specs.declared.request_codes.TheConstants.{CLOSE}
 
 module _ {P : Type 0} (m : PlainMachine P) where
   pub longer_keeps_session : (start : P) (most session : ℕ) (last : List Event) (from : ℕ) (seen longer : List Event) (places : List ℕ)
@@ -94,22 +95,22 @@ last_is NoMemory session some = absurd (some refl)
 module _ {M P : Type 0} (opening : M → P) (m : PlainMachine P) where
   -- what was asked and answered, and then Close
   session_served : (a b d : Asking M) (end : SessionEnd) (acted : Acted) (out : List ℕ) (g h : Option (List ℕ)) (bodies : List (List ℕ))
-      → status_of end ≢ OutOfMemory → AsksOnce opening m b (21 ∷ []) acted out d
+      → status_of end ≢ OutOfMemory → AsksOnce opening m b (CLOSE ∷ []) acted out d
       → AnsweredBy (Asked (AsksOnce opening m)) (shape_of (status_of end)) (λ s. b ≡ s) g h [] [] a bodies
       → Served m (opening a.start.machine) a.start.max_trail a.session end (length a.pass.seen) d.pass.seen (new_places a.pass d.pass) g h bodies
   session_served a b d end acted out g h bodies some one an =
       let shape = shape_of (status_of end) in
       let chain : Chained opening m a b bodies an.answers = subst (λ t. Chained opening m a t bodies an.answers) (sym an.stands)
       (chained opening m a an.state bodies an.answers an.each) in
-      let step : Stepped m (opening a.start.machine) a.start.max_trail b.pass d.pass (a.session, 21 ∷ []) (reply_without acted out) acted =
-      subst (λ (k : Asking M). Stepped m (opening k.start.machine) k.start.max_trail b.pass d.pass (k.session, 21 ∷ []) (reply_without acted out) acted)
-      chain.same (stepped opening m b.start b.pass d.pass (b.session, 21 ∷ []) out acted one.ended) in
+      let step : Stepped m (opening a.start.machine) a.start.max_trail b.pass d.pass (a.session, CLOSE ∷ []) (reply_without acted out) acted =
+      subst (λ (k : Asking M). Stepped m (opening k.start.machine) k.start.max_trail b.pass d.pass (k.session, CLOSE ∷ []) (reply_without acted out) acted)
+      chain.same (stepped opening m b.start b.pass d.pass (b.session, CLOSE ∷ []) out acted one.ended) in
       let replies = chain.talked.replies in
       record {
         replies = replies;
         talk = subst (λ last. Session m (opening a.start.machine) a.start.max_trail a.session last (length a.pass.seen) d.pass.seen
             (new_places a.pass d.pass) bodies replies) (sym (last_is end a.session some))
-            (session_then m (opening a.start.machine) a.start.max_trail a.session a.pass b.pass d.pass bodies an.answers (a.session, 21 ∷ [])
+            (session_then m (opening a.start.machine) a.start.max_trail a.session a.pass b.pass d.pass bodies an.answers (a.session, CLOSE ∷ [])
             (reply_without acted out) acted chain.talked step);
         given = weaker g h (λ y z. shape (y ++ []) (z ++ []) (concat an.answers)) (λ y z. shape y z (frames replies)) an.given
             (λ y z n. subst (λ x. shape x z (frames replies)) (append-nil y)
@@ -117,7 +118,7 @@ module _ {M P : Type 0} (opening : M → P) (m : PlainMachine P) where
       }
 
   pub session_outcome : (a b d : Asking M) (end : SessionEnd) (acted : Acted) (out : List ℕ) (g h : Option (List ℕ)) (first left : List ℕ)
-      → status_of end ≢ OutOfMemory → AsksOnce opening m b (21 ∷ []) acted out d
+      → status_of end ≢ OutOfMemory → AsksOnce opening m b (CLOSE ∷ []) acted out d
       → Outcome (status_of end) (λ s. a ≡ s) (λ s bodies. AnsweredBy (Asked (AsksOnce opening m)) (shape_of (status_of end))
       (λ t. b ≡ t) g h [] [] s bodies) first left
       → SessionOutcome m (opening a.start.machine) a.start.max_trail a.session end (length a.pass.seen) d.pass.seen (new_places a.pass d.pass) g h first left

@@ -19,6 +19,7 @@ use std::alloc::Global;
 use std::sync::Wait;
 use tardis_base::{Machine, NoMemory};
 use tardis_io::{Duplex, Link, Status};
+use wire_talk::request_codes;
 
 /// Serves one link: the bodies of its frames are requests without an actor, asked of the lock by the session, each
 /// when its turn comes, and the frames of the replies are given to the link. The last that is asked is the session's
@@ -102,7 +103,7 @@ fn ask_all<M: Machine, D: Duplex, R: Wait>(
 }
 
 /// The request Close.
-const CLOSE: [u8; 1] = [21];
+const CLOSE: [u8; 1] = [request_codes::CLOSE];
 
 /// The end of a session of whose run this is the status.
 fn end_of(status: Status) -> SessionEnd

@@ -4,6 +4,7 @@ ghost use Rattle.std.specs.Prelude.{◌≡◌, ◌+◌, ◌≤◌, ◌++◌, ◌
 ghost use Rattle.tardis_base.specs.Sizes.{longest_frame};
 ghost use Rattle.shell_text.specs.Spelled.{reply_line_of};
 ghost use Rattle.shell_run.specs.Answers.{event_of_line};
+ghost use Rattle.shell_run.specs.Outcomes.{longest_shell_line};
 ghost use Rattle.shell_run.specs.Wanting.{WantsMemory};
 
 use crate::laws::requests_fit_a_frame;
@@ -35,7 +36,7 @@ pub(crate) fn read_event(alloc: Global, line: &[u8], out: &mut ReplyBuf) -> Resu
 /// Puts the line of a reply, and a line feed, behind what was gathered.
 pub(crate) fn put_line(reply: &[u8], line: &mut LineBuf, out: &mut Gathered)
     requires reply { length reply.now ≤ longest_frame }
-    requires room { length out.old.bytes + 4194369 ≤ out.old.room }
+    requires room { length out.old.bytes + longest_shell_line ≤ out.old.room }
     ensures bytes { out.new.bytes ≡ out.old.bytes ++ (reply_line_of reply.now ++ 10 ∷ []) }
     ensures room { out.new.room ≡ out.old.room }
 {

@@ -3,14 +3,15 @@
 ghost use Rattle.std.specs.Prelude.{◌≡◌, ◌+◌, ◌≤◌, ◌++◌, ◌∷◌, [], length};
 ghost use Rattle.tardis_base.specs.Sizes.{longest_frame};
 ghost use Rattle.shell_run.specs.Answers.{AuditMay, told_line};
+ghost use Rattle.shell_run.specs.Outcomes.{longest_audit_line};
 
-use crate::WANTING;
+use crate::MAX_AUDIT_LINE;
 use crate::asked_lines::put_line;
 use frame_cut::event;
 use shell_text::{LineBuf, put_request_line};
 use site_run::{Gathered, Responder};
 use std::alloc::Global;
-use tardis_base::{Machine, NoMemory, ReplyBuf};
+use tardis_base::{Machine, NO_MEMORY, NoMemory, ReplyBuf};
 
 /// Answers each body by a line that tells what the body asks, as the line of its request, and the line of the machine's
 /// reply, with ` -> ` between, and a line feed. Its buffers are taken once.
@@ -37,15 +38,15 @@ impl<M: Machine> Responder<M> for AuditLines {
 
     ghost opening = { M.opening };
 
-    ghost MOST = { 8388741 };
+    ghost MOST = { longest_audit_line };
 
-    const MOST: usize = 8_388_741;
+    const MOST: usize = MAX_AUDIT_LINE;
 
     fn respond(&mut self, subject: &mut M, body: &[u8], out: &mut Gathered) {
         let (actor, request) = event(body);
         match subject.act(actor, request, &mut self.reply) {
             Ok(()) => put_told(actor, request, self.reply.bytes(), &mut self.line, out),
-            Err(NoMemory) => put_told(actor, request, &WANTING, &mut self.line, out),
+            Err(NoMemory) => put_told(actor, request, &NO_MEMORY, &mut self.line, out),
         }
     }
 }
@@ -54,7 +55,7 @@ impl<M: Machine> Responder<M> for AuditLines {
 fn put_told(actor: u16, request: &[u8], reply: &[u8], line: &mut LineBuf, out: &mut Gathered)
     requires request { length request.now ≤ longest_frame }
     requires reply { length reply.now ≤ longest_frame }
-    requires room { length out.old.bytes + 8388741 ≤ out.old.room }
+    requires room { length out.old.bytes + longest_audit_line ≤ out.old.room }
     ensures bytes { out.new.bytes ≡ out.old.bytes ++ (told_line actor request.now reply.now ++ 10 ∷ []) }
     ensures room { out.new.room ≡ out.old.room }
 {

@@ -1,13 +1,14 @@
 //! A machine's replies as lines, to lines of requests.
 
 ghost use Rattle.shell_run.specs.Answers.{ShellMay, over_lines};
+ghost use Rattle.shell_run.specs.Outcomes.{longest_shell_line};
 
 use crate::asked_lines::{put_line, read_event};
-use crate::{MALFORMED, WANTING};
+use crate::{MALFORMED, MAX_SHELL_LINE};
 use shell_text::LineBuf;
 use site_run::{Gathered, Responder};
 use std::alloc::Global;
-use tardis_base::{Machine, NoMemory, ReadFault, ReplyBuf};
+use tardis_base::{Machine, NO_MEMORY, NoMemory, ReadFault, ReplyBuf};
 
 /// Answers each line by the line of the machine's reply to the request of the line, and a line feed; a line that is no
 /// request's by `refused malformed`. Where no memory is found, the line says so. Its buffers are taken once; what is taken for a
@@ -43,18 +44,18 @@ impl<M: Machine> Responder<M> for ShellReplies {
 
     ghost opening = { M.opening };
 
-    ghost MOST = { 4194369 };
+    ghost MOST = { longest_shell_line };
 
-    const MOST: usize = 4_194_369;
+    const MOST: usize = MAX_SHELL_LINE;
 
     fn respond(&mut self, subject: &mut M, body: &[u8], out: &mut Gathered) {
         match read_event(self.alloc, body, &mut self.request) {
             Ok(actor) => match subject.act(actor, self.request.bytes(), &mut self.reply) {
                 Ok(()) => put_line(self.reply.bytes(), &mut self.line, out),
-                Err(NoMemory) => put_line(&WANTING, &mut self.line, out),
+                Err(NoMemory) => put_line(&NO_MEMORY, &mut self.line, out),
             },
             Err(ReadFault::Malformed) => put_line(&MALFORMED, &mut self.line, out),
-            Err(ReadFault::NoMemory) => put_line(&WANTING, &mut self.line, out),
+            Err(ReadFault::NoMemory) => put_line(&NO_MEMORY, &mut self.line, out),
         }
     }
 }

@@ -8,6 +8,7 @@ use Rattle.frame_cut.specs.Frames.{frame}
 use Rattle.wire_talk.specs.Spellings.{request_spelling}
 use Rattle.site_sync.specs.Asking.{has_code, one_if, how_many, count_spelling, pull_frame}
 use Rattle.site_sync.proofs.Items.{length_map}
+use Rattle.wire_talk.specs.declared.request_codes.TheConstants.{PULL}
 
 pub how_many_then : (code : ℕ) (ys : List (List ℕ)) (y : List ℕ) → how_many code ys + one_if code y ≡ how_many code (ys ++ y ∷ [])
 how_many_then code [] y = omega arith
@@ -29,14 +30,14 @@ pub counts_length : (lines : List SiteLine) → length (flat_map count_spelling 
 counts_length [] = refl
 counts_length (line ∷ lines) = omega (arith, length-append (u32_spelling line.count) (flat_map count_spelling lines), counts_length lines)
 
-pull_body : (lines : List SiteLine) → (19 ∷ length lines ∷ []) ++ flat_map count_spelling lines ≡ request_spelling (Pull (map (λ line. line.count) lines))
+pull_body : (lines : List SiteLine) → (PULL ∷ length lines ∷ []) ++ flat_map count_spelling lines ≡ request_spelling (Pull (map (λ line. line.count) lines))
 pull_body lines =
-    ap (λ n. 19 ∷ n ∷ flat_map count_spelling lines) (sym (length_map (λ (line : SiteLine). line.count) lines))
-    ∙ ap (λ z. 19 ∷ length (map (λ (line : SiteLine). line.count) lines) ∷ z) (sym (counts_are lines))
+    ap (λ n. PULL ∷ n ∷ flat_map count_spelling lines) (sym (length_map (λ (line : SiteLine). line.count) lines))
+    ∙ ap (λ z. PULL ∷ length (map (λ (line : SiteLine). line.count) lines) ∷ z) (sym (counts_are lines))
 
 pub two_bytes : (a b d : List ℕ) (x y : ℕ) → a ≡ [] → b ≡ a ++ x ∷ [] → d ≡ b ++ y ∷ [] → d ≡ x ∷ y ∷ []
 two_bytes a b d x y none one two = two ∙ ap (λ z. z ++ y ∷ []) (one ∙ ap (λ z. z ++ x ∷ []) none)
 
-pub pull_written : (lines : List SiteLine) (body head out : List ℕ) → body ≡ (19 ∷ length lines ∷ []) ++ flat_map count_spelling lines → head
+pub pull_written : (lines : List SiteLine) (body head out : List ℕ) → body ≡ (PULL ∷ length lines ∷ []) ++ flat_map count_spelling lines → head
     ++ body ≡ frame body → out ≡ head ++ body → out ≡ pull_frame lines
 pull_written lines body head out is framed all = all ∙ (framed ∙ ap frame (is ∙ pull_body lines))

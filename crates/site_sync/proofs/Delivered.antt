@@ -15,6 +15,7 @@ use Rattle.site_sync.specs.declared.tallies.Tally.{Tally}
 use Rattle.site_sync.proofs.Items.{place_of, map_append}
 use Rattle.site_sync.proofs.Counts.{how_many_then, how_many_most}
 use Rattle.site_sync.proofs.Going.{goes_nowhere, goes_then, asks_then, unanswered}
+use Rattle.wire_talk.specs.declared.reply_codes.TheConstants.{APPLIED, KNOWN, EARLY, REFUSED}
 
 -- the numbers stay in their type
 pub record Fits (t : Tally) (n : ℕ) : Type 0 where
@@ -25,10 +26,10 @@ pub record Fits (t : Tally) (n : ℕ) : Type 0 where
 
 tally_then : (ys : List (List ℕ)) (y : List ℕ) → tally_with (tally_of ys) y ≡ tally_of (ys ++ y ∷ [])
 tally_then ys y = λ i. record {
-  applied = how_many_then 17 ys y i;
-  known = how_many_then 18 ys y i;
-  early = how_many_then 19 ys y i;
-  refused = how_many_then 21 ys y i;
+  applied = how_many_then APPLIED ys y i;
+  known = how_many_then KNOWN ys y i;
+  early = how_many_then EARLY ys y i;
+  refused = how_many_then REFUSED ys y i;
 }
 
 module _ {M P : Type 0} (opening : M → P) (m : PlainMachine P) (z : Kept M) (items : List Item) where
@@ -45,10 +46,10 @@ module _ {M P : Type 0} (opening : M → P) (m : PlainMachine P) (z : Kept M) (i
 
   pub delivered_fits : (p : Known) (place : ℕ) (q : Known) (tally : Tally) → Delivered p place q tally → Fits tally place
   delivered_fits p place q tally d = record {
-    applied = omega (arith, ap (λ (t : Tally). t.applied) d.counted, how_many_most 17 d.replies, d.one_each);
-    known = omega (arith, ap (λ (t : Tally). t.known) d.counted, how_many_most 18 d.replies, d.one_each);
-    early = omega (arith, ap (λ (t : Tally). t.early) d.counted, how_many_most 19 d.replies, d.one_each);
-    refused = omega (arith, ap (λ (t : Tally). t.refused) d.counted, how_many_most 21 d.replies, d.one_each);
+    applied = omega (arith, ap (λ (t : Tally). t.applied) d.counted, how_many_most APPLIED d.replies, d.one_each);
+    known = omega (arith, ap (λ (t : Tally). t.known) d.counted, how_many_most KNOWN d.replies, d.one_each);
+    early = omega (arith, ap (λ (t : Tally). t.early) d.counted, how_many_most EARLY d.replies, d.one_each);
+    refused = omega (arith, ap (λ (t : Tally). t.refused) d.counted, how_many_most REFUSED d.replies, d.one_each);
   }
 
   pub delivered_more : (p : Known) (place : ℕ) (q t : Known) (tally new : Tally) (reply : List ℕ) → place < length items

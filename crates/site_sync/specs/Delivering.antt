@@ -6,6 +6,7 @@ use Rattle.trail_log.specs.Trail.{Kept}
 use Rattle.trail_log.specs.declared.acted.Acted.{Acted}
 use Rattle.trail_log.specs.declared.acted.Acted.TheVariants.{TrailFull as TrailIsFull, NoMemory as OutOfMemory}
 use Rattle.dag_lock.specs.Known.{Known}
+use Rattle.wire_talk.specs.declared.reply_codes.TheConstants.{APPLIED, KNOWN, EARLY, REFUSED}
 use Rattle.site_sync.specs.Asking.{delivery, one_if, how_many}
 use Rattle.site_sync.specs.Steps.{StepsOnce, Asks}
 use Rattle.site_sync.specs.declared.tallies.Tally.{Tally}
@@ -14,16 +15,16 @@ use Rattle.site_sync.specs.declared.ends.SyncEnd.TheVariants.{Done, TrailFull, N
 
 -- how many replies are Applied, Known, Early and Refused
 abbrev pub tally_of : List (List ℕ) → Tally
-tally_of replies = record { applied = how_many 17 replies; known = how_many 18 replies; early = how_many 19 replies; refused = how_many 21 replies }
+tally_of replies = record { applied = how_many APPLIED replies; known = how_many KNOWN replies; early = how_many EARLY replies; refused = how_many REFUSED replies }
 
 -- one reply more
 abbrev pub tally_with : Tally → List ℕ → Tally
 tally_with t reply =
     record {
-      applied = t.applied + one_if 17 reply;
-      known = t.known + one_if 18 reply;
-      early = t.early + one_if 19 reply;
-      refused = t.refused + one_if 21 reply;
+      applied = t.applied + one_if APPLIED reply;
+      known = t.known + one_if KNOWN reply;
+      early = t.early + one_if EARLY reply;
+      refused = t.refused + one_if REFUSED reply;
     }
 
 module _ {M P : Type 0} (opening : M → P) (m : PlainMachine P) (z : Kept M) where

@@ -17,9 +17,7 @@ use std::sync::Wait;
 use tardis_base::{Batch, Consent, Machine, Record, ReplyBuf};
 use trail_log::Acted;
 use wire_item::{spellings_have_their_lengths, write_consent, write_record};
-
-/// The code of the request Deliver.
-const DELIVER: u8 = 20;
+use wire_talk::request_codes::DELIVER;
 
 /// The actor of all that isn't asked by a session.
 pub(crate) const NOBODY: u16 = 0;

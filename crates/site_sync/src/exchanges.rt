@@ -18,6 +18,7 @@ use std::sync::Wait;
 use tardis_base::{Machine, NoMemory, PIECE, ReplyBuf};
 use tardis_io::{Dial, Duplex, Failed, Link};
 use trail_log::Acted;
+use wire_talk::request_codes;
 
 /// Makes one exchange with a peer: calls it at its address, asks it for what is above the own counts, and delivers each
 /// item of the batch that it answers, in order. The site's turn is taken for each step alone, and never held while the
@@ -79,7 +80,7 @@ impl Buffers {
 }
 
 /// The request Stat.
-const STAT: [u8; 1] = [16];
+const STAT: [u8; 1] = [request_codes::STAT];
 
 /// Makes one exchange over a device, with fresh buffers, and doesn't finish it.
 fn exchange<M: Machine, D: Duplex, R: Wait>(

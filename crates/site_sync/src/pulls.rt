@@ -9,10 +9,8 @@ use frame_cut::put_frame;
 use std::alloc::Global;
 use tardis_base::{Reply, ReplyBuf, SiteLine, SiteLines};
 use wire_item::write_u32;
+use wire_talk::request_codes::PULL;
 use wire_talk::{read_reply, talk_has_one_spelling};
-
-/// The code of the request Pull.
-const PULL: u8 = 19;
 
 /// Writes the frame that asks for what is above the counts of the statistics, in place of the bytes from before. It takes
 /// no memory, and uses the statistics up.

@@ -17,6 +17,7 @@ use std::sync::Wait;
 use tardis_base::{Machine, NoMemory, ReplyBuf};
 use tardis_io::Dial;
 use trail_log::Acted;
+use wire_talk::request_codes;
 
 /// Makes so many rounds: in each, one exchange with each of the peers in the order of their addresses, whatever the end of
 /// the one before. With `tidy` each round is followed by RaiseAuto and Tidy 64, so that a site that its peers keep up with
@@ -123,10 +124,10 @@ fn call_all<M: Machine, D: Dial, R: Wait>(
 }
 
 /// The request RaiseAuto.
-const RAISE_AUTO: [u8; 1] = [14];
+const RAISE_AUTO: [u8; 1] = [request_codes::RAISE_AUTO];
 
 /// The request Tidy 64.
-const TIDY: [u8; 3] = [15, 0, 64];
+const TIDY: [u8; 3] = [request_codes::TIDY, 0, 64];
 
 /// Raises the floor as far as it may go, and collects up to 64 states.
 fn tidy_up<M: Machine, R: Wait>(

@@ -5,6 +5,7 @@ ghost use Rattle.site_sync.specs.Asking.{one_if};
 ghost use Rattle.site_sync.specs.Delivering.{tally_of, tally_with};
 
 use crate::ends::SyncEnd;
+use wire_talk::reply_codes::{APPLIED, EARLY, KNOWN, REFUSED};
 
 /// How many items were applied, were known already, came too early, and were refused.
 #[derive(Clone, Copy)]
@@ -34,10 +35,10 @@ impl Tally {
         ensures { result ≡ tally_with self reply.now }
     {
         Tally {
-            applied: self.applied + one_of(17, reply),
-            known: self.known + one_of(18, reply),
-            early: self.early + one_of(19, reply),
-            refused: self.refused + one_of(21, reply),
+            applied: self.applied + one_of(APPLIED, reply),
+            known: self.known + one_of(KNOWN, reply),
+            early: self.early + one_of(EARLY, reply),
+            refused: self.refused + one_of(REFUSED, reply),
         }
     }
 

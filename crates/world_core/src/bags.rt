@@ -21,13 +21,12 @@ use tardis_base::{Batch, Consent, ListOf, NoMemory, Record, Refusal, Reply, Repl
 use wire_item::{
     read_batch, spellings_have_their_lengths, things_have_one_spelling, write_consent, write_record,
 };
+use wire_talk::reply_codes::BATCH;
+use wire_talk::request_codes::DELIVER;
 use wire_talk::write_reply;
 
 /// The most batches that the bag holds.
 const MOST_BATCHES: usize = 1_024;
-
-/// The first byte of the reply that is a batch.
-const BATCH: u8 = 16;
 
 /// An item of a batch, where it is kept.
 #[derive(Clone, Copy)]
@@ -74,7 +73,7 @@ pub(crate) fn write_deliver(item: &Kept<'_>, out: &mut ReplyBuf)
 {
     spellings_have_their_lengths();
     out.clear();
-    out.push_byte(20);
+    out.push_byte(DELIVER);
     match item {
         Kept::State(state) => {
             out.push_byte(1);

@@ -3,10 +3,7 @@
 use crate::worlds::World;
 use site_run::{Gathered, Responder, put_reply};
 use std::alloc::Global;
-use tardis_base::{NoMemory, ReplyBuf};
-
-/// The reply that memory is wanting.
-const WANTING: [u8; 1] = [22];
+use tardis_base::{MAX_FRAMED, NO_MEMORY, NoMemory, ReplyBuf};
 
 /// Answers each body by the frame of the world's reply. Where the world finds no memory, it is the frame of the reply that
 /// says so. Its buffer is taken once.
@@ -24,6 +21,7 @@ impl WorldReplies {
 
 impl Responder<World> for WorldReplies {
     ghost use Rattle.std.specs.Prelude.{[]};
+    ghost use Rattle.tardis_base.specs.Sizes.{longest_framed};
     ghost use Rattle.plain_world.specs.Worlds.{World as Plain};
     ghost use Rattle.world_core.specs.Held.{WorldStands};
     ghost use Rattle.world_core.specs.Runs.{WorldMay};
@@ -36,14 +34,14 @@ impl Responder<World> for WorldReplies {
 
     ghost opening = { λ _. record { sites = []; bag = [] } };
 
-    ghost MOST = { 1048580 };
+    ghost MOST = { longest_framed };
 
-    const MOST: usize = 1_048_580;
+    const MOST: usize = MAX_FRAMED;
 
     fn respond(&mut self, subject: &mut World, body: &[u8], out: &mut Gathered) {
         match subject.answer(body, &mut self.reply) {
             Ok(()) => put_reply(self.reply.bytes(), out),
-            Err(NoMemory) => put_reply(&WANTING, out),
+            Err(NoMemory) => put_reply(&NO_MEMORY, out),
         }
     }
 }

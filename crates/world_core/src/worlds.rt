@@ -22,7 +22,10 @@ use session_core::SiteCore;
 use std::alloc::Global;
 use std::hash::RandomState;
 use std::marker::Model;
-use tardis_base::{Batch, Limits, ListOf, Machine, NoMemory, ReadFault, Refusal, ReplyBuf};
+use tardis_base::{
+    Batch, Limits, ListOf, MAX_PATH, MAX_SESSIONS, MAX_TRAIL, Machine, NoMemory, ReadFault,
+    Refusal, ReplyBuf,
+};
 use wire_talk::{read_request, talk_has_one_spelling};
 
 /// Sites 1 to M, and the bag: all batches that they gave, in order.
@@ -171,9 +174,9 @@ fn site_limits(sites: u16) -> Limits
     Limits {
         sites,
         max_kept: 1_024,
-        max_path: 4_096,
-        max_sessions: 256,
-        max_trail: 1_073_741_824,
+        max_path: MAX_PATH,
+        max_sessions: MAX_SESSIONS,
+        max_trail: MAX_TRAIL,
     }
 }
 
@@ -215,10 +218,7 @@ fn open_next(
     ensures { AllStand made.old.items (opening_sites (world_limits sites) 1 count)
         → OnOk result (AllStand made.new.items (opening_sites (world_limits sites) 1 (count + 1))) }
 {
-    let site = match open_site(alloc, keys, sites, count + 1) {
-        Ok(site) => site,
-        Err(NoMemory) => return Err(NoMemory),
-    };
+    let site = open_site(alloc, keys, sites, count + 1)?;
     put(made, site)
 }
 

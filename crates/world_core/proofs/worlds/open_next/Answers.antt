@@ -14,5 +14,5 @@ returns c = λ all.
     let next : count + 1 ≡ 1 + count = omega arith in
     on_ok c.put.result
     (λ added. subst (λ made. AllStand made (opening_sites limits 1 (count + 1))) (sym added)
-    (one_more c.args.made.now.items limits 1 count c.in-Ok.site all (subst (λ k. SiteStands c.in-Ok.site (opening limits k)) next c.in-Ok.ensures)))
+    (one_more c.args.made.now.items limits 1 count c.in_ok-site.site all (subst (λ k. SiteStands c.in_ok-site.site (opening limits k)) next c.in_ok-site.ensures)))
     c.put.ensures
