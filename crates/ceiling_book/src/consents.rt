@@ -50,7 +50,40 @@ impl CeilingBook {
         ensures slots { AreSlots self.new dag.now }
         ensures placed { (rs : List Record) (ks : List StateId) → Stands dag.now rs ks → ArePlaced self.old dag.now rs ks → ArePlaced self.new dag.now rs ks }
     {
-        match self.judge_consent(dag, promise) {
+        self.take_judged(dag, self.own, promise)
+    }
+
+    /// Takes a consent back that was known here before, be it an own one: it is judged as by a site of another number. It
+    /// answers as `take_consent` does, at that cost, and takes no memory.
+    pub fn take_consent_back(&mut self, dag: &StateDag, promise: &Consent) -> ConsentEnd
+        requires slots { AreSlots self.old dag.now }
+        requires sites { length (floors_of self.old) ≡ dag.now.limits.sites }
+        requires first { 1 ≤ promise.now.site }
+        ensures judged { (rs : List Record) (ks : List StateId) → Stands dag.now rs ks → ArePlaced self.old dag.now rs ks
+            → ((x : StateId) → IsTrue (is_among x ks) → IsTrue (is_closed rs (floors_of self.old) x))
+            → result ≡ consent_end rs (floors_of self.old) 0 promise.now }
+        ensures taken { TakenIn self.old self.new promise.now result }
+        ensures rest { KeepsSessions self.old self.new }
+        ensures slots { AreSlots self.new dag.now }
+        ensures placed { (rs : List Record) (ks : List StateId) → Stands dag.now rs ks → ArePlaced self.old dag.now rs ks → ArePlaced self.new dag.now rs ks }
+    {
+        self.take_judged(dag, 0, promise)
+    }
+
+    /// Takes a consent, judged by the site of this number; that of no site is 0.
+    fn take_judged(&mut self, dag: &StateDag, own: u16, promise: &Consent) -> ConsentEnd
+        requires slots { AreSlots self.old dag.now }
+        requires sites { length (floors_of self.old) ≡ dag.now.limits.sites }
+        requires first { 1 ≤ promise.now.site }
+        ensures judged { (rs : List Record) (ks : List StateId) → Stands dag.now rs ks → ArePlaced self.old dag.now rs ks
+            → ((x : StateId) → IsTrue (is_among x ks) → IsTrue (is_closed rs (floors_of self.old) x))
+            → result ≡ consent_end rs (floors_of self.old) own promise.now }
+        ensures taken { TakenIn self.old self.new promise.now result }
+        ensures rest { KeepsSessions self.old self.new }
+        ensures slots { AreSlots self.new dag.now }
+        ensures placed { (rs : List Record) (ks : List StateId) → Stands dag.now rs ks → ArePlaced self.old dag.now rs ks → ArePlaced self.new dag.now rs ks }
+    {
+        match self.judge_consent(dag, own, promise) {
             Err(end) => end,
             Ok(slot) => {
                 self.floors[promise.site as usize - 1] = KnownFloor {
@@ -67,13 +100,18 @@ impl CeilingBook {
     }
 
     /// The slot of the floor of a consent that is to be taken; else what becomes of it.
-    fn judge_consent(&self, dag: &StateDag, promise: &Consent) -> Result<Slot, ConsentEnd>
+    fn judge_consent(
+        &self,
+        dag: &StateDag,
+        own: u16,
+        promise: &Consent,
+    ) -> Result<Slot, ConsentEnd>
         requires slots { AreSlots self.now dag.now }
         requires sites { length (floors_of self.now) ≡ dag.now.limits.sites }
         requires first { 1 ≤ promise.now.site }
         ensures judged { (rs : List Record) (ks : List StateId) → Stands dag.now rs ks → ArePlaced self.now dag.now rs ks
             → ((x : StateId) → IsTrue (is_among x ks) → IsTrue (is_closed rs (floors_of self.now) x))
-            → end_of result ≡ consent_end rs (floors_of self.now) self.now.own promise.now }
+            → end_of result ≡ consent_end rs (floors_of self.now) own promise.now }
         ensures same { IfErr result (λ end. TakenIn self.now self.now promise.now end) }
         ensures last { IfOk result (λ slot. promise.now.site ≤ length (floors_of self.now)) }
         ensures floor { IfOk result (λ slot. id_at dag.now slot ≡ Some promise.now.floor) }
@@ -86,7 +124,7 @@ impl CeilingBook {
         if promise.number <= number {
             return Err(ConsentEnd::Known);
         }
-        if site == self.own {
+        if site == own {
             return Err(ConsentEnd::Refused(Refusal::OwnItem {
                 site,
                 number: promise.number,

@@ -24,4 +24,5 @@ pub mod Merging
 pub mod FloorMoves
 pub mod Tidying
 pub mod Exchanging
+pub mod Resting
 mod JoiningInOne

@@ -5,6 +5,7 @@ use Rattle.tardis_base.specs.declared.faults.NoMemory.{NoMemory as OutOfMemory}
 use Rattle.tardis_base.specs.declared.records.Record.{Record}
 use Rattle.tardis_base.specs.declared.replies.Reply.{Reply}
 use Rattle.tardis_base.specs.declared.replies.Reply.TheVariants.{Applied as IsApplied, Known as IsKnown, Early as IsEarly}
+use Rattle.record_store.specs.Answers.{MayArrive}
 use Rattle.ceiling_book.specs.declared.consents.ConsentEnd.{ConsentEnd}
 use Rattle.ceiling_book.specs.declared.consents.ConsentEnd.TheVariants.{Applied, Known, Early, Refused}
 use Rattle.site_exchange.specs.declared.judging.Judged.{Judged}
@@ -31,10 +32,10 @@ consent_reply (Refused refusal) = Err (RefusedAs refusal)
 abbrev pub JudgedAs : Core → Record → Result Judged OutOfMemory → Type 0
 JudgedAs core r result = (site : Site) → CoreStands core site → IsSound site → IfOk result (λ judged. reply_of judged ≡ first_reply (judgements site r))
 
--- a fit record arrives, where the site may grow by it
+-- a record that may arrive does, where the site may grow by it
 abbrev pub ArrivesAs : Core → Core → Record → Result Reply Stop → Type 0
 ArrivesAs old new r result =
-    (site : Site) → CoreStands old site → IsSound site → first_reply (judgements site r) ≡ None →
+    (site : Site) → CoreStands old site → IsSound site → MayArrive site.limits.sites site.dag site.collected r →
     GivesOrStops (CoreStands new) (unless site (growth_refusals site r) (with_record r site, IsApplied)) site result
 
 -- a record waits at this place, and the store may take it

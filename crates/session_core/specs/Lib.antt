@@ -14,3 +14,4 @@ pub mod Merges
 pub mod Exchange
 pub mod Joins
 pub mod Machine
+pub mod Rests

@@ -86,7 +86,7 @@ impl Parts {
     }
 
     /// How the writes of the record are judged, whose parents are kept: each conflict key of the parents is to be among them.
-    fn judge_writes(&self, rec: &Record) -> Result<Judged, NoMemory>
+    pub(crate) fn judge_writes(&self, rec: &Record) -> Result<Judged, NoMemory>
         requires few { length rec.now.parents ≤ 8 }
         requires listed { IsTrue (list_all (is_listed self.now.store.table) rec.now.parents) }
         ensures { (site : Site) → CoreStands self.now site
@@ -106,10 +106,11 @@ impl Parts {
     }
 
     /// Adds the record, which is fit, to the history, where there is room. What it writes is moved into the store.
-    fn add(&mut self, rec: Record) -> Result<Reply, Stop>
+    pub(crate) fn add(&mut self, rec: Record) -> Result<Reply, Stop>
         requires valid { IsTrue (is_record rec) }
         requires fit { IsAddable self.old.store.table rec }
-        ensures { ArrivesAs self.old self.new rec result }
+        ensures arrives { ArrivesAs self.old self.new rec result }
+        ensures applied { IfOk result (λ reply. reply ≡ Reply.Applied) }
     {
         let slots = self.store.slots_of(rec.parents.as_slice());
         let mut writes = rec.writes;

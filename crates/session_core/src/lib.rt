@@ -21,6 +21,7 @@ mod gives;
 mod joins;
 mod merges;
 mod reads_and_writes;
+mod rests;
 mod sessions;
 mod shows;
 mod stops;

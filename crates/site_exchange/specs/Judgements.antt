@@ -1,5 +1,5 @@
 -- How a record is judged, as far as it concerns neither its writes nor room.
-use Rattle.std.specs.Prelude.{◌≡◌, ◌≤◌, ◌+◌, ◌-◌, List, [], ◌∷◌, take, find, Option, Some, None, slice_get, unwrap_or, IsTrue}
+use Rattle.std.specs.Prelude.{◌≡◌, ℕ, ◌≤◌, ◌+◌, ◌-◌, List, [], ◌∷◌, take, find, Option, Some, None, slice_get, unwrap_or, IsTrue}
 use Rattle.std.specs.List.{list_all}
 use Rattle.tardis_base.specs.declared.ids.StateId.{StateId}
 use Rattle.tardis_base.specs.declared.records.Record.{Record}
@@ -32,6 +32,10 @@ first_reply (Some reply ∷ more) = Some reply
 -- all judgements of the record but the last, whether it writes each conflict key of its parents
 abbrev pub first_judgements : Site → Record → List (Option Reply)
 first_judgements site r = take 6 (judgements site r)
+
+-- the site under this number
+abbrev pub numbered : ℕ → Site → Site
+numbered own site = record site { own = own }
 
 -- those that concern its parents
 abbrev pub parent_judgements : Site → List StateId → List (Option Reply)

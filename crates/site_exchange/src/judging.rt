@@ -13,9 +13,10 @@ ghost use Rattle.state_dag.specs.Table.{is_listed};
 ghost use Rattle.ceiling_book.specs.Places.{AreSlots};
 ghost use Rattle.plain_site.specs.Site.{Site};
 ghost use Rattle.plain_site.specs.Exchange.{is_early};
+ghost use Rattle.plain_site.specs.Rest.{nameless};
 ghost use Rattle.site_exchange.specs.declared.judging.Judged.TheVariants.{Fit};
 ghost use Rattle.site_exchange.specs.Stands.{BookStands};
-ghost use Rattle.site_exchange.specs.Judgements.{reply_of, first_reply, first_judgements, parent_judgements, IsAddable};
+ghost use Rattle.site_exchange.specs.Judgements.{reply_of, first_reply, first_judgements, parent_judgements, numbered, IsAddable};
 
 use begin_rule::comparable_pair;
 use ceiling_book::CeilingBook;
@@ -50,6 +51,31 @@ pub fn judge_record(store: &RecordStore, book: &CeilingBook, rec: &Record) -> Ju
         → reply_of result ≡ first_reply (first_judgements site rec.now) }
     ensures fit { result ≡ Fit → IsAddable store.now.table rec.now }
 {
+    judge_for(store, book, book.own_site(), rec)
+}
+
+/// How the record is judged by the site under no number, so that it takes back what it knew before, own records too. Else it
+/// answers as `judge_record` does, at that cost.
+pub fn judge_nameless(store: &RecordStore, book: &CeilingBook, rec: &Record) -> Judged
+    requires slots { AreSlots book.now store.now.table }
+    requires first { 1 ≤ rec.now.id.site }
+    requires few { length rec.now.parents ≤ 8 }
+    ensures judged { (site : Site) → StoreStands store.now site.dag site.collected → BookStands store.now.table book.now site
+        → reply_of result ≡ first_reply (first_judgements (nameless site) rec.now) }
+    ensures fit { result ≡ Fit → IsAddable store.now.table rec.now }
+{
+    judge_for(store, book, 0, rec)
+}
+
+/// How the record is judged by the site under this number; that of no site is 0.
+fn judge_for(store: &RecordStore, book: &CeilingBook, own: u16, rec: &Record) -> Judged
+    requires slots { AreSlots book.now store.now.table }
+    requires first { 1 ≤ rec.now.id.site }
+    requires few { length rec.now.parents ≤ 8 }
+    ensures judged { (site : Site) → StoreStands store.now site.dag site.collected → BookStands store.now.table book.now site
+        → reply_of result ≡ first_reply (first_judgements (numbered own site) rec.now) }
+    ensures fit { result ≡ Fit → IsAddable store.now.table rec.now }
+{
     let dag = store.dag();
     let StateId { site, sequence } = rec.id;
     if site > dag.limits().sites {
@@ -59,7 +85,7 @@ pub fn judge_record(store: &RecordStore, book: &CeilingBook, rec: &Record) -> Ju
     if sequence <= have {
         return Judged::Known;
     }
-    if site == book.own_site() {
+    if site == own {
         return Judged::Refused(Refusal::OwnItem {
             site,
             number: sequence,

@@ -7,5 +7,5 @@ mod judging;
 mod rooms;
 
 pub use batches::batch_for;
-pub use judging::{Judged, judge_record};
+pub use judging::{Judged, judge_nameless, judge_record};
 pub use rooms::WaitRoom;

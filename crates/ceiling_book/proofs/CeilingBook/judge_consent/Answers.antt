@@ -18,8 +18,8 @@ returns-in-Some-clause-judged c = λ rs ks stands placed closed.
     let named = c.floor-number.ensures.floor c.args.dag.now rs ks placed in
     let told = c.in-Some.ensures.below rs ks stands (floor_of fs p.site).state named
     (λ x among. closed-at rs fs x p.site c.requires.first within (closed x among)) (floor-known rs p early) in
-    sym (is-taken rs fs now.own p (not-less (length fs) p.site within) (not-at_most p.number (floor_of fs p.site).number above)
-    (not-same p.site now.own (λ e. c.if-site-self.false (e ∙ ap (λ b. b.own) (sym c.self.view_is)))) early (sym told))
+    sym (is-taken rs fs c.args.own p (not-less (length fs) p.site within) (not-at_most p.number (floor_of fs p.site).number above)
+    (not-same p.site c.args.own c.if-site-own.false) early (sym told))
 
 pub returns-in-None-clause-judged : goal.returns-in-None-clause-judged
 returns-in-None-clause-judged c = λ rs ks stands placed closed.
@@ -34,5 +34,5 @@ returns-in-None-clause-judged c = λ rs ks stands placed closed.
     (λ x among. closed-at rs fs x p.site c.requires.first within (closed x among)) (floor-known rs p early) in
     let same = same_Some c.id_of.result (floor_of fs p.site).state (sym c.id_of.ensures.is ∙ named) in
     ap (λ x. Refused (FloorBack x)) same
-    ∙ sym (goes-back rs fs now.own p (not-less (length fs) p.site within) (not-at_most p.number (floor_of fs p.site).number above)
-    (not-same p.site now.own (λ e. c.if-site-self.false (e ∙ ap (λ b. b.own) (sym c.self.view_is)))) early (sym told))
+    ∙ sym (goes-back rs fs c.args.own p (not-less (length fs) p.site within) (not-at_most p.number (floor_of fs p.site).number above)
+    (not-same p.site c.args.own c.if-site-own.false) early (sym told))

@@ -11,7 +11,7 @@ use Rattle.session_core.specs.Held.{seen}
 use Rattle.session_core.specs.Stands.{CoreStands}
 use Rattle.session_core.specs.Stops.{add_stop}
 use Rattle.session_core.proofs.Answers.{as-given, stopped}
-use Rattle.session_core.proofs.Exchanging.{record-shape, fit-arrives, fit-may-be-added, grown-site, grown-parts, growth-free, growth-stops}
+use Rattle.session_core.proofs.Exchanging.{record-shape, fit-may-be-added, grown-site, grown-parts, growth-free, growth-stops}
 use Rattle.session_core.proofs.Parts.add.Goals as goal
 
 pub slots_of-slots-requires-clause-few : goal.slots_of-slots-requires-clause-few
@@ -44,8 +44,8 @@ commit-requires-clause-slots c =
 pub invariant_of-self-2 : goal.invariant_of-self-2
 invariant_of-self-2 c = grown-parts c.self.inside c.commit.new.self c.self.invariant c.commit.ensures.keeps c.commit.ensures.limits
 
-pub returns-in_err-commit : goal.returns-in_err-commit
-returns-in_err-commit c = λ site stands sound fit.
+pub returns-in_err-commit-clause-arrives : goal.returns-in_err-commit-clause-arrives
+returns-in_err-commit-clause-arrives c = λ site stands sound may_arrive.
     let here = subst (λ v. CoreStands v site) (sym c.self.view_is) stands in
     let core = seen c.self.inside in
     let table = core.store.table in
@@ -54,14 +54,14 @@ returns-in_err-commit c = λ site stands sound fit.
     let told = subst (λ (xs : List StateId). map (id_at table) (take (length xs) c.slots_of-slots.result) ≡ map (λ x. Some x) xs) c.as_slice.ensures
     c.slots_of-slots.ensures in
     let named = subst (λ n. map (id_at table) (take n c.slots_of-slots.result) ≡ map (λ x. Some x) r.parents) (sym c.len.ensures) told in
-    let may = fit-may-be-added core site r below here (fit-arrives site r sound c.requires.valid fit) named in
+    let may = fit-may-be-added core site r below here may_arrive named in
     let added = c.in_err-commit.ensures.added site.dag site.collected r here.store refl refl may in
     stopped (CoreStands (record core { store = c.commit.new.self })) (unless site (growth_refusals site r) (with_record r site, Applied)) site
     (add_stop c.in_err-commit.field-0.0) c.from_residual.result c.from_residual.ensures.1
     (growth-stops core site r c.commit.new.self here (with_record r site, Applied) c.in_err-commit.field-0.0 added c.in_err-commit.ensures.same.table)
 
-pub returns : goal.returns
-returns c = λ site stands sound fit.
+pub returns-clause-arrives : goal.returns-clause-arrives
+returns-clause-arrives c = λ site stands sound may_arrive.
     let here = subst (λ v. CoreStands v site) (sym c.self.view_is) stands in
     let core = seen c.self.inside in
     let table = core.store.table in
@@ -70,7 +70,7 @@ returns c = λ site stands sound fit.
     let told = subst (λ (xs : List StateId). map (id_at table) (take (length xs) c.slots_of-slots.result) ≡ map (λ x. Some x) xs) c.as_slice.ensures
     c.slots_of-slots.ensures in
     let named = subst (λ n. map (id_at table) (take n c.slots_of-slots.result) ≡ map (λ x. Some x) r.parents) (sym c.len.ensures) told in
-    let may = fit-may-be-added core site r below here (fit-arrives site r sound c.requires.valid fit) named in
+    let may = fit-may-be-added core site r below here may_arrive named in
     let added = c.in_ok-commit.ensures.added site.dag site.collected r here.store refl refl may in
     as-given (CoreStands (record core { store = c.commit.new.self })) (unless site (growth_refusals site r) (with_record r site, Applied))
     (with_record r site, Applied) Applied

@@ -10,7 +10,7 @@ use Rattle.plain_site.specs.Exchange.{deliver_record, with_held}
 use Rattle.session_core.specs.Held.{seen}
 use Rattle.session_core.specs.Stands.{CoreStands}
 use Rattle.session_core.proofs.Answers.{as-given, as-answer}
-use Rattle.session_core.proofs.Exchanging.{delivered-early, delivered-known, delivered-refused, delivered-fit, early-held, room-held, held-valid}
+use Rattle.session_core.proofs.Exchanging.{delivered-early, delivered-known, delivered-refused, delivered-fit, fit-arrives, early-held, room-held, held-valid}
 use Rattle.session_core.proofs.Parts.deliver_record.Goals as goal
 
 pub returns-in-Fit : goal.returns-in-Fit
@@ -18,7 +18,7 @@ returns-in-Fit c = λ site stands sound.
     let r = c.args.rec in
     let fit = sym (c.in_ok-judge.ensures.judged site stands sound) ∙ ap reply_of c.in-Fit.is in
     as-answer (CoreStands c.add.new.self) (deliver_record site r) (unless site (growth_refusals site r) (with_record r site, Applied)) site c.add.result
-    (delivered-fit site r fit) (c.add.ensures site stands sound fit)
+    (delivered-fit site r fit) (c.add.ensures.arrives site stands sound (fit-arrives site r sound c.requires fit))
 
 pub invariant_of-self : goal.invariant_of-self
 invariant_of-self c =

@@ -2,7 +2,7 @@ use Rattle.ceiling_book.specs.declared.parts.KnownFloor.{KnownFloor}
 use Rattle.ceiling_book.specs.Held.{seen}
 use Rattle.ceiling_book.specs.Places.{IsSlotOf, IsAt, HasStandIn}
 use Rattle.ceiling_book.proofs.Consenting.{floor-written, places-kept, named-slot}
-use Rattle.ceiling_book.proofs.CeilingBook.take_consent.Goals as goal
+use Rattle.ceiling_book.proofs.CeilingBook.take_judged.Goals as goal
 
 pub returns-in-Ok-clause-taken : goal.returns-in-Ok-clause-taken
 returns-in-Ok-clause-taken c =

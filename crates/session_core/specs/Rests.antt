@@ -1,0 +1,62 @@
+-- What lasted of an earlier site is taken back.
+use Rattle.std.specs.Prelude.{◌≡◌, ℕ, ⊤, Bool, true, false, ◌&&◌, ◌==◌, length, [], ◌∷◌, is_none, Result, Ok, Err, IfOk, IsTrue, IsFalse}
+use Rattle.tardis_base.specs.declared.faults.NoMemory.{NoMemory as OutOfMemory}
+use Rattle.tardis_base.specs.declared.records.Record.{Record}
+use Rattle.tardis_base.specs.declared.replies.Refusal.TheVariants.{OpenConflict}
+use Rattle.tardis_base.specs.declared.replies.Reply.{Reply}
+use Rattle.plain_dag.specs.Conflicts.{open_conflict}
+use Rattle.ceiling_book.specs.declared.consents.ConsentEnd.{ConsentEnd}
+use Rattle.ceiling_book.specs.declared.consents.ConsentEnd.TheVariants.{Applied}
+use Rattle.ceiling_book.specs.Book.{sessions_of}
+use Rattle.site_exchange.specs.Judgements.{first_reply}
+use Rattle.plain_site.specs.Site.{Site}
+use Rattle.plain_site.specs.Answers.{refuse_found}
+use Rattle.plain_site.specs.Exchange.{judgements}
+use Rattle.plain_site.specs.Sound.{IsSound}
+use Rattle.plain_site.specs.Rest.{Lasting, nameless, with_lasting, fits}
+use Rattle.session_core.specs.Core.{Core}
+use Rattle.session_core.specs.Stands.{CoreStands}
+use Rattle.session_core.specs.declared.stops.Stop.{Stop}
+use Rattle.session_core.specs.declared.stops.Stop.TheVariants.{Refused, NoMemory}
+use Rattle.session_core.specs.Machine.{SiteStands}
+
+-- no session is open, and nothing waits
+abbrev pub is_quiet : Core → Bool
+is_quiet core = length (sessions_of core.book) == 0 && length core.waiting == 0
+
+-- it fits, and was taken; or it doesn't fit; or there was no memory; and where it wasn't taken all is as before
+abbrev pub TakenBy : Core → Lasting → Site → Result Bool OutOfMemory → Type 0
+TakenBy new l site (Ok true) = IsTrue (fits site l) × SiteStands new (with_lasting l site)
+TakenBy new l site (Ok false) = IsFalse (fits site l) × SiteStands new site
+TakenBy new l site (Err fault) = SiteStands new site
+
+-- so it is for each site that it stood for
+abbrev pub TakesBack : Core → Core → Lasting → Result Bool OutOfMemory → Type 0
+TakesBack old new l result = (site : Site) → SiteStands old site → TakenBy new l site result
+
+-- where it fits, the site stays sound with it
+abbrev pub KeepsSound : Core → Lasting → Type 0
+KeepsSound core l = (site : Site) → SiteStands core site → IsTrue (fits site l) → IsSound (with_lasting l site)
+
+-- nothing but want of room speaks against the record, were it another site's
+abbrev pub IsWelcomeTo : Core → Record → Result Bool OutOfMemory → Type 0
+IsWelcomeTo core r result =
+    (site : Site) → SiteStands core site → IfOk result (λ welcome. welcome ≡ is_none (first_reply (judgements (nameless site) r)))
+
+-- each conflict key of its parents is among what it writes
+abbrev pub HasFitWrites : Core → Record → Result Bool OutOfMemory → Type 0
+HasFitWrites core r result =
+    (site : Site) → CoreStands core site
+    → IfOk result (λ fit. fit ≡ is_none (first_reply (refuse_found OpenConflict (open_conflict site.dag r.parents r.writes) ∷ [])))
+
+-- what came of a record that is welcome: it was taken, or there is no room; or there was no memory
+abbrev pub TakenAs : Result Reply Stop → Result Bool OutOfMemory → Type 0
+TakenAs (Ok reply) taken = taken ≡ Ok true
+TakenAs (Err (Refused refusal)) taken = taken ≡ Ok false
+TakenAs (Err NoMemory) (Ok answer) = ⊥
+TakenAs (Err NoMemory) (Err fault) = ⊤
+
+-- the consent was taken
+abbrev pub is_applied : ConsentEnd → Bool
+is_applied Applied = true
+is_applied end = false
