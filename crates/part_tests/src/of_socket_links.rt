@@ -100,3 +100,44 @@ fn bytes_go_over_sockets_of_both_kinds(rt: HostRuntime) {
     drop(other);
     drop(gate);
 }
+
+/// Whether a link whose other side went, with bytes that it hadn't taken, tells both as faults: that nothing can be taken any
+/// more, which isn't the end of what was sent, and that nothing can be given.
+fn tells_faults<R: Files + Net<Listener = TcpListener, Stream = TcpStream>>(
+    gate: &mut SocketGate<'_, R>,
+    dial: &mut SocketDial<'_, R>,
+    address: &str,
+) -> bool {
+    let (Ok(()), Ok(mut near)) = (gate.bind(address), dial.call(address)) else {
+        return false;
+    };
+    let Ok(Some(far)) = gate.next() else {
+        return false;
+    };
+    let is_given = gives(&mut near, b"ab");
+    drop(far);
+    let is_told = is_given && fails_to_take(&mut near) && fails_to_give(&mut near);
+    let is_counted = near.read_faults() == 1 && near.write_faults() == 1;
+    drop(near);
+    is_told && is_counted
+}
+
+fn fails_to_take<L: Link>(link: &mut L) -> bool {
+    link.take(&mut [0u8; 8]) == Err(Failed)
+}
+
+fn fails_to_give<L: Link>(link: &mut L) -> bool {
+    link.give(b"c") == Err(Failed)
+}
+
+#[test]
+fn a_link_that_was_lost_is_no_end(rt: HostRuntime) {
+    let path = "lost.sock";
+    let _ = fs::remove_file(&rt, path);
+    let mut gate = SocketGate::new(&rt);
+    let mut dial = SocketDial::new(&rt);
+    assert!(rt; tells_faults(&mut gate, &mut dial, "unix:lost.sock"));
+    fs::remove_file(&rt, path).expect(&rt, "the file");
+    drop(dial);
+    drop(gate);
+}

@@ -77,3 +77,29 @@ fn faults_say_what_is_wrong(rt: HostRuntime) {
     assert!(rt; text.as_str() == "the fork path of state 2.15 would have 9 pairs, too many");
     drop(text);
 }
+
+/// Every size, as `docs/FORMATS.md` and `docs/MODEL.md` tell it. The definitions take these constants from the code, so that no
+/// proof would be refused by another number.
+#[test]
+fn sizes_are_as_they_are_told(rt: HostRuntime) {
+    for (size, told) in [
+        (MAX_KEY as u64, 128),
+        (MAX_VALUE as u64, 4_096),
+        (MAX_WRITES as u64, 64),
+        (MAX_READS as u64, 256),
+        (MAX_PARENTS as u64, 8),
+        (MAX_FRAME as u64, 1_048_576),
+        (MAX_FRAMED as u64, 1_048_580),
+        (MAX_REQUEST as u64, 1_048_574),
+        (PIECE as u64, 65_536),
+        (MAX_NEWS as u64, 786_432),
+        (MAX_NAMED as u64, 256),
+        (u64::from(MAX_SITES), 16),
+        (u64::from(MAX_KEPT), 16_384),
+        (u64::from(MAX_PATH), 4_096),
+        (u64::from(MAX_SESSIONS), 256),
+        (MAX_TRAIL, 1_073_741_824),
+    ] {
+        assert_eq!(rt; size, told);
+    }
+}

@@ -2,6 +2,7 @@
 pub mod RequestsRead
 pub mod RepliesRead
 pub mod Lengths
+pub mod Printed
 pub mod Rows
 pub mod Arms
 pub mod LineTexts

@@ -1,6 +1,6 @@
 //! The laws of lines. Each function is empty, and its contract is laws or worked lines.
 
-ghost use Rattle.shell_text.specs.Laws.{RepliesHaveOneLine, ReplyLinesFit, RequestLinesFit, RequestsHaveOneLine};
+ghost use Rattle.shell_text.specs.Laws.{RepliesHaveOneLine, ReplyLinesEnd, ReplyLinesFit, RequestLinesEnd, RequestLinesFit, RequestsHaveOneLine};
 ghost use Rattle.shell_text.specs.Rows.{CommitLineIsRead, CommittedLineIsRead, EmptyAfterIsNoLine, GetForLineIsRead, HexOfPlainIsNoLine};
 ghost use Rattle.shell_text.specs.Rows.{LeadingZeroIsNoLine, LongNumberIsNoLine, MergeLineIsRead, OpenLineIsRead, OtherOrderIsNoLine, PullLineIsRead};
 ghost use Rattle.shell_text.specs.Rows.{PutLineIsRead, RaiseAutoLineIsRead, RefusedLineIsRead, SettleLineIsRead, SpaceBehindIsNoLine};
@@ -11,6 +11,13 @@ ghost use Rattle.shell_text.specs.Rows.{StatisticsLineIsRead, TwoSpacesAreNoLine
 pub fn lines_have_one_reading()
     ensures request { RequestsHaveOneLine }
     ensures reply { RepliesHaveOneLine }
+{}
+
+/// A line is printed characters and spaces alone, and the line feed behind it tells where it ends: with it, no line is a
+/// front of another (without it `1 open` is a front of `1 open follow`).
+pub fn lines_end_at_their_line_feed()
+    ensures request { RequestLinesEnd }
+    ensures reply { ReplyLinesEnd }
 {}
 
 /// Worked lines.
