@@ -100,12 +100,7 @@ impl CeilingBook {
     }
 
     /// The slot of the floor of a consent that is to be taken; else what becomes of it.
-    fn judge_consent(
-        &self,
-        dag: &StateDag,
-        own: u16,
-        promise: &Consent,
-    ) -> Result<Slot, ConsentEnd>
+    fn judge_consent(&self, dag: &StateDag, own: u16, promise: &Consent) -> Result<Slot, ConsentEnd>
         requires slots { AreSlots self.now dag.now }
         requires sites { length (floors_of self.now) ≡ dag.now.limits.sites }
         requires first { 1 ≤ promise.now.site }

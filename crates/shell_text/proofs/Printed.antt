@@ -224,7 +224,7 @@ reply (Statistics known kept leaves sessions sites) h =
     let few = within-parts 1 16 (length sites) s.0 in
     let of_sites : List Word = counted_words (codes "sites") site_line_word sites in
     let e = counted (codes "sites") site_line_word sites refl (number-printed (length sites) (omega arith))
-        (many is_site_line site_line_word site-line sites s.1) in
+    (many is_site_line site_line_word site-line sites s.1) in
     let of_sessions : List Word = codes "sessions" ∷ number_word sessions ∷ of_sites in
     let f = before (number_word sessions) of_sites (u16 sessions b.1) e in
     let of_leaves : List Word = codes "leaves" ∷ number_word leaves ∷ of_sessions in
