@@ -55,16 +55,29 @@ module _ {M : Type 0} (m : AResting M) where
 
     pub size_some : 1 ≤ size
     size_some =
-        omega (arith, few, ap length next, length-append (entry (group front.life number body)) (drop size (drop place bytes)),
-        length-drop size (drop place bytes), length-append (coded (group front.life number body)) (247 ∷ []))
+        omega (
+          arith,
+          few,
+          ap length next,
+          length-append (entry (group front.life number body)) (drop size (drop place bytes)),
+          length-drop size (drop place bytes),
+          length-append (coded (group front.life number body)) (247 ∷ []),
+        )
 
     pub went_on : (new : M) → IsBody body → ((s : m.Plain) → m.stands mid s → (t : m.Plain) × (m.takes_back s body t × m.stands new t))
         → Progress old new bytes front (place + size) (number + 1) (bodies ++ body ∷ [])
     went_on new fits back = record {
       whole = one_more;
       each = all_more IsBody bodies body p.each fits;
-      at = omega (arith, few, p.within, ap length one_more, length-append (text_of front (bodies ++ body ∷ [])) (drop (place + size) bytes),
-          length-drop (place + size) bytes, length-drop place bytes);
+      at = omega (
+        arith,
+        few,
+        p.within,
+        ap length one_more,
+        length-append (text_of front (bodies ++ body ∷ [])) (drop (place + size) bytes),
+        length-drop (place + size) bytes,
+        length-drop place bytes,
+      );
       count = omega (arith, p.count, length-append bodies (body ∷ []));
       within = omega (arith, few, length-drop place bytes, p.within);
       few = omega (arith, p.few, size_some);

@@ -56,10 +56,10 @@ loop-size-preserved g c =
       opening = c.take_back.ensures.opening ∙ inv.opening;
       within = omega (arith, next.1, length-drop place bytes, inv.within);
       few = omega (
-          arith,
-          inv.few,
-          size_some m c.group_laws.ensures.grows c.args.machine.now c.loop-size.machine bytes c.args.front.now place c.loop-size.number
-          inv.progress.0 inv.progress.1 body size next.1 next.2,
+        arith,
+        inv.few,
+        size_some m c.group_laws.ensures.grows c.args.machine.now c.loop-size.machine bytes c.args.front.now place c.loop-size.number
+            inv.progress.0 inv.progress.1 body size next.1 next.2,
       );
     }
 
