@@ -4,3 +4,5 @@ pub mod Appending
 pub mod Growing
 pub mod Marks
 pub mod Standing
+pub mod Replaying
+pub mod Wanting

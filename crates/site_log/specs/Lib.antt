@@ -4,3 +4,5 @@ pub mod Kept
 pub mod Images
 pub mod Files
 pub mod Stood
+pub mod Replays
+pub mod Reads

@@ -4,10 +4,16 @@
 
 mod appends;
 mod bodies;
+mod ends;
 mod files;
 mod logged;
+mod reads;
+mod replays;
 mod resumes;
 mod texts;
 
+pub use ends::OpenEnd;
 pub use logged::Logged;
+pub use reads::read_log;
+pub use replays::Found;
 pub use resumes::{LogEnd, resume};
