@@ -1,0 +1,2 @@
+-- The record that arrived last, as a store holds it.
+pub mod Newest
