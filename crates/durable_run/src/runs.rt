@@ -2,9 +2,8 @@
 
 ghost use Rattle.std.specs.Prelude.{◌≡◌, ◌⊎◌, ◌+◌, ◌<◌, ◌≤◌, ◌++◌, [], ℕ, List, length, IfOk, IfErr, ◌==◌, if◌then◌else◌};
 ghost use Rattle.tardis_base.specs.Sizes.{longest_trail, piece as piece_size};
-ghost use Rattle.tardis_io.specs.Told.{WhileTold, Takes};
-ghost use Rattle.tardis_io.specs.Moments.{with_take};
-ghost use Rattle.tardis_io.specs.Faults.{Rose, HasCause};
+ghost use Rattle.tardis_io.specs.Told.{WhileTold};
+ghost use Rattle.tardis_io.specs.Faults.{Rose};
 ghost use Rattle.frame_cut.specs.Frames.{IsCut};
 ghost use Rattle.disk_store.specs.Disks.{AsHonest};
 ghost use Rattle.site_run.specs.Endings.{EndsAs, IsRunEnd, most_taken};
@@ -20,6 +19,7 @@ use crate::pieces::{Next, answer_piece};
 use disk_store::Disk;
 use frame_cut::FrameCutter;
 use site_journal::{Journaled, OpenEnd, open_on};
+use site_run::take_front;
 use std::alloc::Global;
 use tardis_base::{Machine, NoMemory, PIECE};
 use tardis_io::{Duplex, Failed, Pair, Sink, Source, Status};
@@ -201,20 +201,4 @@ fn end_of(cutter: &FrameCutter) -> Status
     } else {
         Status::Ok
     }
-}
-
-/// Takes at most so many bytes into the front of a buffer.
-fn take_front<D: Duplex>(device: &mut D, buf: &mut [u8], most: usize) -> Result<usize, Failed>
-    requires some { 0 < most }
-    requires room { most ≤ length buf.old }
-    ensures bound { IfOk result (λ n. n ≤ most) }
-    ensures bytes { WhileTold (D.left device.old) (D.left device.new) (λ before after. Takes before after result buf.new) }
-    ensures cause { HasCause (D.take_faults device.old) (D.take_faults device.new) result }
-    ensures told { D.takes device.new ≡ with_take (D.takes device.old) (D.left device.old) (D.given device.old) }
-    ensures given { D.given device.new ≡ D.given device.old }
-    ensures faults { D.faults device.new ≡ D.faults device.old }
-    ensures parts { D.parts device.new ≡ D.parts device.old }
-    ensures room { length buf.new ≡ length buf.old }
-{
-    device.take(&mut buf[..most])
 }

@@ -94,6 +94,7 @@ fn sizes_are_as_they_are_told(rt: HostRuntime) {
         (PIECE as u64, 65_536),
         (MAX_NEWS as u64, 786_432),
         (MAX_NAMED as u64, 256),
+        (MAX_WAITING as u64, 256),
         (u64::from(MAX_SITES), 16),
         (u64::from(MAX_KEPT), 16_384),
         (u64::from(MAX_PATH), 4_096),

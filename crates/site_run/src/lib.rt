@@ -9,4 +9,4 @@ mod runs;
 
 pub use gathered::Gathered;
 pub use responders::{MachineReplies, Responder, put_reply};
-pub use runs::{answer_frames, answer_lines, run_device, run_site};
+pub use runs::{answer_frames, answer_lines, run_device, run_site, take_front};

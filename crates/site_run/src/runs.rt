@@ -264,7 +264,7 @@ fn answer_input<T, C: Cutter, R: Responder<T>, D: Duplex>(
 }
 
 /// Takes at most so many bytes into the front of a buffer.
-fn take_front<D: Duplex>(device: &mut D, buf: &mut [u8], most: usize) -> Result<usize, Failed>
+pub fn take_front<D: Duplex>(device: &mut D, buf: &mut [u8], most: usize) -> Result<usize, Failed>
     requires some { 0 < most }
     requires room { most ≤ length buf.old }
     ensures bound { IfOk result (λ n. n ≤ most) }

@@ -1,6 +1,6 @@
 -- How much one thing may hold.
 use Rattle.std.specs.Prelude.{ℕ}
-use Rattle.tardis_base.specs.declared.sizes.TheConstants.{MAX_KEY, MAX_VALUE, MAX_WRITES, MAX_READS, MAX_PARENTS, MAX_FRAME, MAX_FRAMED, MAX_REQUEST, PIECE, MAX_NEWS, MAX_NAMED, MAX_SITES, MAX_KEPT, MAX_PATH, MAX_SESSIONS, MAX_TRAIL}
+use Rattle.tardis_base.specs.declared.sizes.TheConstants.{MAX_KEY, MAX_VALUE, MAX_WRITES, MAX_READS, MAX_PARENTS, MAX_FRAME, MAX_FRAMED, MAX_REQUEST, PIECE, MAX_NEWS, MAX_NAMED, MAX_WAITING, MAX_SITES, MAX_KEPT, MAX_PATH, MAX_SESSIONS, MAX_TRAIL}
 
 -- the most bytes of a key
 abbrev pub longest_key : ℕ
@@ -45,6 +45,10 @@ most_news = MAX_NEWS
 -- the most states, or keys, that one reply names
 abbrev pub most_named : ℕ
 most_named = MAX_NAMED
+
+-- the most records that wait at a site for parents which it doesn't know yet
+abbrev pub most_waiting : ℕ
+most_waiting = MAX_WAITING
 
 -- the most sites that may have states
 abbrev pub most_sites : ℕ

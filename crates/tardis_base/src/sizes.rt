@@ -34,6 +34,9 @@ pub const MAX_NEWS: usize = 786_432;
 /// The most states, or keys, that one reply names. It tells how many there are.
 pub const MAX_NAMED: usize = 256;
 
+/// The most records that wait at a site for parents which it doesn't know yet.
+pub const MAX_WAITING: usize = 256;
+
 /// The most sites that may have states.
 pub const MAX_SITES: u16 = 16;
 
