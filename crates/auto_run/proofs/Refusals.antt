@@ -46,7 +46,7 @@ next-is-id site ranged f =
 
 -- a refusal of growth doesn't look at what the record writes
 without-writes : (site : Site) (xs : List StateId) (ws : List KeyWrite)
-    → growth_refusal true site.limits site.collected site.dag (next_record site xs ws) ≡ growth_refusal true site.limits site.collected site.dag
+    → growth_refusal site.limits site.collected site.dag (next_record site xs ws) ≡ growth_refusal site.limits site.collected site.dag
     (next_record site xs [])
 without-writes site xs ws = refl
 
@@ -61,8 +61,8 @@ grows-in-range site xs ranged id = record {
 growth-ends : (site : Site) (xs : List StateId) (ws : List KeyWrite) → IsRanged site → IsTrue (is_id (next_id site)) →
     AllGood EndsWell (growth_refusals site (next_record site xs ws))
 growth-ends site xs ws ranged id =
-    good-found (λ f. f) (growth_refusal true site.limits site.collected site.dag (next_record site xs ws)) []
-    (λ f e. growth-refusal-is-valid true site.limits site.collected site.dag (next_record site xs []) f (grows-in-range site xs ranged id)
+    good-found (λ f. f) (growth_refusal site.limits site.collected site.dag (next_record site xs ws)) []
+    (λ f e. growth-refusal-is-valid site.limits site.collected site.dag (next_record site xs []) f (grows-in-range site xs ranged id)
     (sym (without-writes site xs ws) ∙ e))
     good-none
 

@@ -86,7 +86,7 @@ module _ (site : Site) (n : ℕ) (flags : EndFlags) (k : ℕ) where
         let others = refuse over SeqEnd ∷ growth_refusals site r in
         unless-none (TellsCommit site n flags) site (refusals ++ others) (committed site n r)
         (both-only refusals others only
-        (refuse-only over SeqEnd (growth_refusals site r) (found-only (λ f. f) (growth_refusal true site.limits site.collected site.dag r) [] tt)))
+        (refuse-only over SeqEnd (growth_refusals site r) (found-only (λ f. f) (growth_refusal site.limits site.collected site.dag r) [] tt)))
         refused-tells (λ none. committed-tells parents (placed (none-appended refusals others none).0))
 
   single-tells : (t : SingleTxn) → entry_of n site.txns ≡ Some (Single t) → TellsCommit site n flags (commit_single site n t flags k)

@@ -151,7 +151,7 @@ module _ (site : Site) (n : ℕ) where
       unless-no-taking (λ answer. IsFalse (says_early answer.1) → Does site n (Deliver (State r)) answer) site
       (judgements site r ++ growth_refusals site r) (with_record r site, Applied)
       (both-no-taking (judgements site r) (growth_refusals site r) (judged-no-taking site r)
-      (found-no-taking (λ f. f) (growth_refusal true site.limits site.collected site.dag r) [] tt)) (tells-nothing r)
+      (found-no-taking (λ f. f) (growth_refusal site.limits site.collected site.dag r) [] tt)) (tells-nothing r)
       (λ never. same-books site n (Deliver (State r)) (with_record r site) Applied (inr (r, refl)) (λ seen. refl) refl refl (λ seen. refl) (λ rs s. refl)) late
 
   record-does : (r : Record) → Does site n (Deliver (State r)) (deliver_record site r)
@@ -202,7 +202,7 @@ module _ (site : Site) (n : ℕ) where
       (λ none. does-nothing site n Settle Done (λ seen. refl) (λ rs s. refl) (λ seen s. refl))
       (λ found is.
       unless-does site n Settle (growth_refusals site found.1) (with_settled found site, Applied)
-      (found-only (λ f. f) (growth_refusal true site.limits site.collected site.dag found.1) [] tt)
+      (found-only (λ f. f) (growth_refusal site.limits site.collected site.dag found.1) [] tt)
       (same-books site n Settle (with_settled found site) Applied (inr (found.1, refl)) (λ seen. settled-told found is) refl refl (λ seen. refl)
       (λ rs s. refl)))
 

@@ -254,7 +254,7 @@ module _ (site : Site) (n : ℕ) where
         unless-does site n (Commit flags k) (refusals ++ refuse over SeqEnd ∷ growth_refusals site r) (committed site n r)
         (both-only refusals (refuse over SeqEnd ∷ growth_refusals site r) only
         (refuse-only over SeqEnd (growth_refusals site r)
-        (found-only (λ f. f) (growth_refusal true site.limits site.collected site.dag r) [] tt)))
+        (found-only (λ f. f) (growth_refusal site.limits site.collected site.dag r) [] tt)))
         (committed-does t there r refl)
 
     commit_at-does : (t : SingleTxn) → entry_of n site.txns ≡ Some (Single t) → (x : StateId) → Does site n (Commit flags k) (commit_at site n t flags k x)

@@ -54,7 +54,7 @@ module _ (site : Site) (n : ℕ) (flags : EndFlags) (k : ℕ) where
       let others = refuse over SeqEnd ∷ growth_refusals site r in
       unless-refused (TellsEnd site n) site (refusals ++ others) (committed site n r)
       (both-only refusals others only
-      (refuse-only over SeqEnd (growth_refusals site r) (found-only (λ f. f) (growth_refusal true site.limits site.collected site.dag r) [] tt)))
+      (refuse-only over SeqEnd (growth_refusals site r) (found-only (λ f. f) (growth_refusal site.limits site.collected site.dag r) [] tt)))
       refused-ends (record { told = λ x e. absurd (cc) })
 
   single-ends : (t : SingleTxn) → entry_of n site.txns ≡ Some (Single t) → TellsEnd site n (commit_single site n t flags k)
@@ -117,7 +117,7 @@ step-takes site n r =
     let taken : TellsTaken site r answer =
     unless-taken site r (judgements site r ++ growth_refusals site r) (with_record r site, Applied)
     (both-no-taking (judgements site r) (growth_refusals site r) (judged-no-taking site r)
-    (found-no-taking (λ f. f) (growth_refusal true site.limits site.collected site.dag r) [] tt))
+    (found-no-taking (λ f. f) (growth_refusal site.limits site.collected site.dag r) [] tt))
     (record { taken = λ e. refl }) in
     record {
       taken = λ e.
@@ -152,7 +152,7 @@ step-settles site n =
     given-good (TellsSettled site) (first_fit_record site) (site, Done) (settle_record site) (λ none. record { settled = λ e. absurd (cc) })
     (λ found is.
     unless-settled site (growth_refusals site found.1) (with_settled found site, Applied)
-    (found-no-taking (λ f. f) (growth_refusal true site.limits site.collected site.dag found.1) [] tt) (record { settled = λ e. (found, is, refl) }))
+    (found-no-taking (λ f. f) (growth_refusal site.limits site.collected site.dag found.1) [] tt) (record { settled = λ e. (found, is, refl) }))
 
 pub settled-are-kept : SettledAreKept step
 settled-are-kept start newer older n run =

@@ -33,7 +33,7 @@ HasRoomToo reply = IsFalse (tells_full reply)
 
 grows-or-tells : (ks : List StateId) (site : Site) (r : Record) → GrowsToo ks HasRoomToo site r
 grows-or-tells ks site r refusal here there room =
-    both_ways (tells_full (Refused refusal)) room (subst IsFull there (growth-is-full true site.limits ks site.dag r))
+    both_ways (tells_full (Refused refusal)) room (subst IsFull there (growth-is-full site.limits ks site.dag r))
 
 -- any second reply
 abbrev pub AnyReply : Reply → Type 0
@@ -42,7 +42,7 @@ AnyReply reply = Unit {0}
 grows-with-it : (a b : Site) → length (kept_states a.dag a.collected) ≤ a.limits.max_kept → CollectedMore a b → (r : Record) →
     GrowsToo b.collected AnyReply a r
 grows-with-it a b few more r refusal here there any =
-    none-some refusal (sym (grows-too a.collected b.collected more true a.limits a.dag r few here) ∙ there)
+    none-some refusal (sym (grows-too a.collected b.collected more a.limits a.dag r few here) ∙ there)
 
 -- the answer of the second site, by what has to be of its reply
 answer-agrees : (Seen : Reply → Type 0) (a b : Site) (n : ℕ) (q : Request) →

@@ -140,28 +140,21 @@ module _ (ks js : List StateId) (more : (x : StateId) → IsTrue (is_among x ks)
       ap (option_map (λ (x : StateId). (x, length (fork_path rs js x)))) none_there
 
   -- where the history of who kept no more than it may grows, that of who collected more grows too
-  pub grows-too : (tries_paths : Bool) (limits : Limits) (rs : List Record) (r : Record) → length (kept_states rs ks) ≤ limits.max_kept →
-      growth_refusal tries_paths limits ks rs r ≡ None → growth_refusal tries_paths limits js rs r ≡ None
-  grows-too tries_paths limits rs r few e =
+  pub grows-too : (limits : Limits) (rs : List Record) (r : Record) → length (kept_states rs ks) ≤ limits.max_kept →
+      growth_refusal limits ks rs r ≡ None → growth_refusal limits js rs r ≡ None
+  grows-too limits rs r few e =
       let kept = length (kept_states rs ks) in
       let kept_there = length (kept_states rs js) in
       let fewer = fewer-kept rs in
       let tell : StateId × ℕ → Refusal = λ p. PathFull p.0 p.1 in
       let too_long = option_map tell (long_path (r ∷ rs) ks limits.max_path) in
       let too_long_there = option_map tell (long_path (r ∷ rs) js limits.max_path) in
-      let paths : Option Refusal = if tries_paths then too_long else None in
-      let paths_there : Option Refusal = if tries_paths then too_long_there else None in
       elim (cases_Bool (kept == limits.max_kept)) [
-        | inl t ↦ absurd (none-some (Full kept) (sym e ∙ cond-true (kept == limits.max_kept) (Some (Full kept)) paths t))
+        | inl t ↦ absurd (none-some (Full kept) (sym e ∙ cond-true (kept == limits.max_kept) (Some (Full kept)) too_long t))
         | inr f ↦
             let less = eqb-false kept limits.max_kept f in
             let differs : IsFalse (kept_there == limits.max_kept) = ne_eqb kept_there limits.max_kept (λ same. less (omega arith)) in
-            let none : paths ≡ None = sym (cond-false (kept == limits.max_kept) (Some (Full kept)) paths f) ∙ e in
-            cond-false (kept_there == limits.max_kept) (Some (Full kept_there)) paths_there differs
-            ∙ elim (cases_Bool tries_paths) [
-              | inl t ↦
-                  let none_long = not-found (long_path (r ∷ rs) ks limits.max_path) tell (sym (cond-true tries_paths too_long None t) ∙ none) in
-                  cond-true tries_paths too_long_there None t ∙ ap (option_map tell) (no-longer (r ∷ rs) limits.max_path none_long)
-              | inr n ↦ cond-false tries_paths too_long_there None n
-            ]
+            let none : too_long ≡ None = sym (cond-false (kept == limits.max_kept) (Some (Full kept)) too_long f) ∙ e in
+            cond-false (kept_there == limits.max_kept) (Some (Full kept_there)) too_long_there differs
+            ∙ ap (option_map tell) (no-longer (r ∷ rs) limits.max_path (not-found (long_path (r ∷ rs) ks limits.max_path) tell none))
       ]

@@ -30,15 +30,13 @@ path-is-full : (o : Option (StateId × ℕ)) → IsFull (option_map (λ (p : Sta
 path-is-full None = tt
 path-is-full (Some p) = refl
 
-pub growth-is-full : (tries_paths : Bool) (limits : Limits) (ks : List StateId) (rs : List Record) (r : Record) →
-    IsFull (growth_refusal tries_paths limits ks rs r)
-growth-is-full tries_paths limits ks rs r =
+pub growth-is-full : (limits : Limits) (ks : List StateId) (rs : List Record) (r : Record) →
+    IsFull (growth_refusal limits ks rs r)
+growth-is-full limits ks rs r =
     let kept = length (kept_states rs ks) in
     let long = long_path (r ∷ rs) ks limits.max_path in
     let too_long : Option Refusal = option_map (λ (p : StateId × ℕ). PathFull p.0 p.1) long in
-    let paths : Option Refusal = if tries_paths then too_long else None in
-    cond_both (kept == limits.max_kept) (Some (Full kept)) paths IsFull (λ t. refl)
-    (λ f. cond_both tries_paths too_long None IsFull (λ t. path-is-full long) (λ g. tt))
+    cond_both (kept == limits.max_kept) (Some (Full kept)) too_long IsFull (λ t. refl) (λ f. path-is-full long)
 
 -- the site with these collected states
 abbrev pub other : List StateId → Site → Site
@@ -52,8 +50,8 @@ module _ (ks : List StateId) (Seen : Reply → Type 0) where
 
   -- where the first site grows by the record, a refusal of the second isn't such
   abbrev pub GrowsToo : Site → Record → Type 0
-  GrowsToo site r = (refusal : Refusal) → growth_refusal true site.limits site.collected site.dag r ≡ None →
-      growth_refusal true site.limits ks site.dag r ≡ Some refusal → Seen (Refused refusal) → ⊥
+  GrowsToo site r = (refusal : Refusal) → growth_refusal site.limits site.collected site.dag r ≡ None →
+      growth_refusal site.limits ks site.dag r ≡ Some refusal → Seen (Refused refusal) → ⊥
 
   -- ===== Several replies, of which the first is given
 
@@ -81,9 +79,9 @@ module _ (ks : List StateId) (Seen : Reply → Type 0) where
   pub growth-unseen : (site : Site) (r : Record) (x y : Answer) → GrowsToo site r → Unseen x y →
       Unseen (unless site (growth_refusals site r) x) (unless (other ks site) (growth_refusals (other ks site) r) y)
   growth-unseen site r x y grows h =
-      room-unseen site (growth_refusal true site.limits site.collected site.dag r)
-      (growth_refusal true site.limits ks site.dag r) x y
-      (growth-is-full true site.limits site.collected site.dag r) grows h
+      room-unseen site (growth_refusal site.limits site.collected site.dag r)
+      (growth_refusal site.limits ks site.dag r) x y
+      (growth-is-full site.limits site.collected site.dag r) grows h
 
   -- ===== What is there
 

@@ -116,10 +116,10 @@ commits-below gs e es few =
     let kept = length (kept_states (chain gs) (older gs)) in
     let too_long = option_map (λ (p : StateId × ℕ). PathFull p.0 p.1) (long_path (chain ((e ∷ es) ∷ gs)) (older gs) 4096) in
     let one : kept ≡ 1 = ap length (one-is-kept gs) in
-    let grows : growth_refusal true (program_limits 1) (older gs) (chain gs) r ≡ None =
+    let grows : growth_refusal (program_limits 1) (older gs) (chain gs) r ≡ None =
     cond-false (kept == 16384) (Some (Full kept)) too_long (ne_eqb kept 16384 (λ same. omega arith))
     ∙ ap (option_map (λ (p : StateId × ℕ). PathFull p.0 p.1)) (no-long-path ((e ∷ es) ∷ gs) (older gs)) in
-    passes-and-grows site (number gs == 4294967295) SeqEnd (growth_refusal true (program_limits 1) (older gs) (chain gs) r) (committed site 1 r)
+    passes-and-grows site (number gs == 4294967295) SeqEnd (growth_refusal (program_limits 1) (older gs) (chain gs) r) (committed site 1 r)
     (ne_eqb (number gs) 4294967295 (λ same. omega arith)) grows
 
 pub commits : (gs : List (List Entry)) (e : Entry) (es : List Entry) → number gs < 4294967295 →

@@ -31,7 +31,7 @@ module _ (site : Site) (n : ℕ) where
   refused-well (Some refusal) answer well = record { other = λ e. (cc); stays = λ none. refl }
 
   commit-well : (xs : List StateId) (ws : List KeyWrite) → EndsWell site (ended_as (commit_below site n xs ws []))
-  commit-well xs ws = go (own_count site == 4294967295) (growth_refusal true site.limits site.collected site.dag r)
+  commit-well xs ws = go (own_count site == 4294967295) (growth_refusal site.limits site.collected site.dag r)
     where
       r : Record
       r = next_record site xs ws

@@ -118,22 +118,21 @@ long-path-is-valid rs ks most p h few kept e = go (find (λ x. nat_lt most (leng
         (all-found is_id (λ x. nat_lt most (length (fork_path rs ks x))) (kept_states rs ks) x (kept-are-ids rs ks h) is)
         (lt-ltb (length (fork_path rs ks x)) (2 ^ 32) (path-is-short rs ks x few kept)))
 
-pub growth-refusal-is-valid : (tries : Bool) (limits : Limits) (ks : List StateId) (rs : List Record) (r : Record) (f : Refusal) →
-    GrowsInRange rs ks limits r → growth_refusal tries limits ks rs r ≡ Some f → IsTrue (is_refusal f)
-growth-refusal-is-valid tries limits ks rs r f g e = elim (cases_Bool (length (kept_states rs ks) == limits.max_kept)) [
+pub growth-refusal-is-valid : (limits : Limits) (ks : List StateId) (rs : List Record) (r : Record) (f : Refusal) →
+    GrowsInRange rs ks limits r → growth_refusal limits ks rs r ≡ Some f → IsTrue (is_refusal f)
+growth-refusal-is-valid limits ks rs r f g e = elim (cases_Bool (length (kept_states rs ks) == limits.max_kept)) [
   | inl t ↦
       let kept : length (kept_states rs ks) < 2 ^ 32 = omega (arith, g.few_kept) in
       subst (λ q. IsTrue (is_refusal q)) (same_Some (Full (length (kept_states rs ks))) f
-      (sym (cond-true (length (kept_states rs ks) == limits.max_kept) (Some (Full (length (kept_states rs ks)))) (too-long tries) t) ∙ e))
+      (sym (cond-true (length (kept_states rs ks) == limits.max_kept) (Some (Full (length (kept_states rs ks)))) path-refusal t) ∙ e))
       (lt-ltb (length (kept_states rs ks)) (2 ^ 32) kept)
-  | inr n ↦ by-path tries (sym (cond-false (length (kept_states rs ks) == limits.max_kept) (Some (Full (length (kept_states rs ks)))) (too-long tries) n) ∙ e)
+  | inr n ↦
+      by-pair (long_path (r ∷ rs) ks limits.max_path) refl
+      (sym (cond-false (length (kept_states rs ks) == limits.max_kept) (Some (Full (length (kept_states rs ks)))) path-refusal n) ∙ e)
 ]
   where
     path-refusal : Option Refusal
     path-refusal = option_map (λ p. PathFull p.0 p.1) (long_path (r ∷ rs) ks limits.max_path)
-
-    too-long : Bool → Option Refusal
-    too-long b = if b then path-refusal else None
 
     by-pair : (o : Option (StateId × ℕ)) → long_path (r ∷ rs) ks limits.max_path ≡ o → option_map (λ p. PathFull p.0 p.1) o ≡ Some f → IsTrue (is_refusal f)
     by-pair None is e = absurd (none-some f e)
@@ -141,7 +140,3 @@ growth-refusal-is-valid tries limits ks rs r f g e = elim (cases_Bool (length (k
         let kept : length (kept_states (r ∷ rs) ks) ≤ 16385 = omega (arith, g.few_kept, filter-grows (λ x. not (is_among x ks)) (arrived rs) r.id) in
         let few : HaveFewChildren (r ∷ rs) = λ x. omega (arith, g.few_children x, children-grow rs r x) in
         subst (λ q. IsTrue (is_refusal q)) (same_Some (PathFull p.0 p.1) f e) (long-path-is-valid (r ∷ rs) ks limits.max_path p g.stored few kept is)
-
-    by-path : (b : Bool) → too-long b ≡ Some f → IsTrue (is_refusal f)
-    by-path true e = by-pair (long_path (r ∷ rs) ks limits.max_path) refl e
-    by-path false e = absurd (none-some f e)

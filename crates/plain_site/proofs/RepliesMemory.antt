@@ -78,7 +78,7 @@ growth-is-own false kept (Some p) refusal e = sym (ap (λ (o : Option Refusal). 
 growth-surely : (site : Site) (r : Record) → AllGood IsSure (growth_refusals site r)
 growth-surely site r =
     let kept = length (kept_states site.dag site.collected) in
-    good-found (λ f. f) (growth_refusal true site.limits site.collected site.dag r) []
+    good-found (λ f. f) (growth_refusal site.limits site.collected site.dag r) []
     (λ f e. says-other (Refused f) (growth-is-own (kept == site.limits.max_kept) kept (long_path (r ∷ site.dag) site.collected site.limits.max_path) f e))
     good-none
 

@@ -36,8 +36,8 @@ use Rattle.plain_site.proofs.RepliesOfReads.{single-writes, merge-states}
 
 pub growth-fits : (site : Site) (r : Record) → IsRanged site → IsTrue (is_stored r) → AllGood Fits (growth_refusals site r)
 growth-fits site r ranged h =
-    good-found (λ f. f) (growth_refusal true site.limits site.collected site.dag r) []
-    (λ f e. refusal-fits f (growth-refusal-is-valid true site.limits site.collected site.dag r f grows e)) good-none
+    good-found (λ f. f) (growth_refusal site.limits site.collected site.dag r) []
+    (λ f e. refusal-fits f (growth-refusal-is-valid site.limits site.collected site.dag r f grows e)) good-none
   where
     grows : GrowsInRange site.dag site.collected site.limits r
     grows = record {

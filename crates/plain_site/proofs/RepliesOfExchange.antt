@@ -15,6 +15,7 @@ use Rattle.tardis_base.specs.declared.replies.Reply.{Reply}
 use Rattle.tardis_base.specs.declared.replies.Reply.TheVariants.{Batch as BatchIs, Done, Known, Early, Applied, Refused}
 use Rattle.tardis_base.specs.Ids.{root, same_id, are_ascending}
 use Rattle.tardis_base.specs.Valid.{is_u16, is_u32, is_id, is_within, is_record}
+use Rattle.tardis_base.specs.Sizes.{most_news}
 use Rattle.wire_item.specs.Spellings.{id_spelling, parents_spelling, writes_spelling, record_spelling, records_spelling, consents_spelling}
 use Rattle.wire_item.specs.Valid.{is_consent, is_item, are_records, are_consents, are_ascending_numbers}
 use Rattle.wire_talk.specs.Valid.{are_counts}
@@ -202,12 +203,12 @@ consents-of-floors n (f ∷ fs) some most h =
 
 batch-fits : (site : Site) (counts : List ℕ) → IsDag site.dag → IsRanged site → length site.floors ≡ site.limits.sites → Fits (BatchIs (batch_for site counts))
 batch-fits site counts dag ranged one =
-    let rs : List Record = fitting 786432 (filter (is_news_for site counts) (in_arrival_order site.dag)) in
+    let rs : List Record = fitting most_news (filter (is_news_for site counts) (in_arrival_order site.dag)) in
     let cs : List Consent = consents_from 1 site.floors in
     let valid : IsTrue (list_all is_record rs) =
-    fitting-all is_record 786432 (filter (is_news_for site counts) (in_arrival_order site.dag))
+    fitting-all is_record most_news (filter (is_news_for site counts) (in_arrival_order site.dag))
     (news-are-records site counts (in_arrival_order site.dag) (arrival-all is_held site.dag (dag-held site.dag dag))) in
-    let bytes : length (flat_map record_spelling rs) ≤ 786432 = fitting-bytes 786432 (filter (is_news_for site counts) (in_arrival_order site.dag)) in
+    let bytes : length (flat_map record_spelling rs) ≤ most_news = fitting-bytes most_news (filter (is_news_for site counts) (in_arrival_order site.dag)) in
     let few : length rs < 2 ^ 16 = omega (arith, records-size rs valid) in
     let consents = consents-of-floors 1 site.floors (omega arith) (omega (arith, ranged.limits.sites)) ranged.floors in
     let few_consents : length cs ≤ 16 = omega (arith, consents.few, ranged.limits.sites) in

@@ -41,28 +41,27 @@ map-none : {A B : Type 0} (f : A → B) (o : Option A) → option_map f o ≡ No
 map-none f None e = refl
 map-none f (Some a) e = absurd (none-some (f a) (sym e))
 
--- nothing speaks against growth: there is room for a kept state, and where path limits are tried no path is too long
-pub record MayGrow (tries_paths : Bool) (limits : Limits) (ks : List StateId) (rs : List Record) (r : Record) : Type 0 where
+-- nothing speaks against growth: there is room for a kept state, and no path is too long
+pub record MayGrow (limits : Limits) (ks : List StateId) (rs : List Record) (r : Record) : Type 0 where
   pub room : length (kept_states rs ks) ≢ limits.max_kept
-  pub short : IsTrue tries_paths → (x : StateId) → IsTrue (is_kept (r ∷ rs) ks x) → length (fork_path (r ∷ rs) ks x) ≤ limits.max_path
+  pub short : (x : StateId) → IsTrue (is_kept (r ∷ rs) ks x) → length (fork_path (r ∷ rs) ks x) ≤ limits.max_path
 
-pub may-grow : (tries_paths : Bool) (limits : Limits) (ks : List StateId) (rs : List Record) (r : Record) →
-    growth_refusal tries_paths limits ks rs r ≡ None → MayGrow tries_paths limits ks rs r
-may-grow tries_paths limits ks rs r e =
+pub may-grow : (limits : Limits) (ks : List StateId) (rs : List Record) (r : Record) →
+    growth_refusal limits ks rs r ≡ None → MayGrow limits ks rs r
+may-grow limits ks rs r e =
     let kept = length (kept_states rs ks) in
     let new : List Record = r ∷ rs in
     let too_long : Option Refusal = option_map (λ (p : StateId × ℕ). PathFull p.0 p.1) (long_path new ks limits.max_path) in
-    let rest : Option Refusal = cond tries_paths too_long None in
     let free : IsFalse (kept == limits.max_kept) = false_from_ne_true (kept == limits.max_kept) (λ t.
-    none-some (Full kept) (sym e ∙ cond-true (kept == limits.max_kept) (Some (Full kept)) rest t)) in
-    let left : rest ≡ None = sym (cond-false (kept == limits.max_kept) (Some (Full kept)) rest free) ∙ e in
+    none-some (Full kept) (sym e ∙ cond-true (kept == limits.max_kept) (Some (Full kept)) too_long t)) in
+    let left : too_long ≡ None = sym (cond-false (kept == limits.max_kept) (Some (Full kept)) too_long free) ∙ e in
     record {
       room = eqb-false kept limits.max_kept free;
-      short = λ tries x h.
+      short = λ x h.
           let is_long : StateId → Bool = λ y. nat_lt limits.max_path (length (fork_path new ks y)) in
           let unfound : find is_long (kept_states new ks) ≡ None =
           map-none (λ y. (y, length (fork_path new ks y))) (find is_long (kept_states new ks))
-          (map-none (λ (p : StateId × ℕ). PathFull p.0 p.1) (long_path new ks limits.max_path) (sym (cond-true tries_paths too_long None tries) ∙ left)) in
+          (map-none (λ (p : StateId × ℕ). PathFull p.0 p.1) (long_path new ks limits.max_path) left) in
           ltb-false limits.max_path (length (fork_path new ks x)) (unfound-at is_long (kept_states new ks) x unfound (kept-is_listed new ks x h));
     }
 
@@ -168,11 +167,11 @@ module _ (rs : List Record) (r : Record) (dag : IsDag rs) (next : IsNext rs r) w
 
 pub arrival-keeps : (site : Site) (r : Record) → IsSound site → IsNext site.dag r → r.id.site ≤ site.limits.sites →
     ((p : StateId) → IsTrue (is_among p r.parents) → IsFalse (is_closed site.dag site.floors p)) →
-    growth_refusal true site.limits site.collected site.dag r ≡ None → IsSound (with_record r site)
+    growth_refusal site.limits site.collected site.dag r ≡ None → IsSound (with_record r site)
 arrival-keeps site r sound next of_a_site free grows =
     let rs = site.dag in
     let dag = sound.dag in
-    let growth = may-grow true site.limits site.collected rs r grows in
+    let growth = may-grow site.limits site.collected rs r grows in
     let few = sound.few_kept in
     let full = growth.room in
     let room : length (kept_states rs site.collected) < site.limits.max_kept = omega arith in

@@ -123,7 +123,7 @@ commit_below-keeps : (site : Site) (n : ℕ) (parents : List StateId) (writes : 
 commit_below-keeps site n parents writes refusals sound joins =
     let r = next_record site parents writes in
     let over = own_count site == 4294967295 in
-    let grown = growth_refusal true site.limits site.collected site.dag r in
+    let grown = growth_refusal site.limits site.collected site.dag r in
     unless-keeps IsSound site sound (refusals ++ refuse over SeqEnd ∷ growth_refusals site r) (committed site n r)
     (λ none.
     let parts = none-appended refusals (refuse over SeqEnd ∷ growth_refusals site r) none in

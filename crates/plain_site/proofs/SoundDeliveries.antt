@@ -79,7 +79,7 @@ welcome site r valid sound none =
 
 take-keeps : (site : Site) (r : Record) → IsTrue (is_record r) → IsSound site → IsSound (take_record site r).0
 take-keeps site r valid sound =
-    let grown = growth_refusal true site.limits site.collected site.dag r in
+    let grown = growth_refusal site.limits site.collected site.dag r in
     unless-keeps IsSound site sound (judgements site r ++ growth_refusals site r) (with_record r site, Applied)
     (λ none.
     let parts = none-appended (judgements site r) (growth_refusals site r) none in
@@ -162,7 +162,7 @@ waiting-is-record site r may =
     (and_parts (is_record r && nat_le r.id.site site.limits.sites) (not (r.id.site == site.own)) may).0).0
 
 settled-keeps : (site : Site) (found : ℕ × Record) → IsSound site → first_fit_record site ≡ Some found →
-    growth_refusal true site.limits site.collected site.dag found.1 ≡ None → IsSound (with_settled found site)
+    growth_refusal site.limits site.collected site.dag found.1 ≡ None → IsSound (with_settled found site)
 settled-keeps site found sound is grows =
     let r = found.1 in
     let rest = without found.0 site.waiting in
@@ -177,7 +177,7 @@ pub settle-keeps : (site : Site) → IsSound site → IsSound (settle site).0
 settle-keeps site sound =
     given-keeps IsSound site sound (first_fit_record site) (site, Done) (settle_record site) (λ none. sound)
     (λ found is.
-    let grown = growth_refusal true site.limits site.collected site.dag found.1 in
+    let grown = growth_refusal site.limits site.collected site.dag found.1 in
     unless-keeps IsSound site sound (growth_refusals site found.1) (with_settled found site, Applied)
     (λ none. settled-keeps site found sound is (found-none (λ f. f) grown (none-parts (refuse_found (λ f. f) grown) [] none).0)))
 

@@ -29,7 +29,7 @@ with_record r site = record site { dag = r ∷ site.dag }
 
 -- why the site doesn't grow by the record
 abbrev pub growth_refusals : Site → Record → List (Option Reply)
-growth_refusals site r = refuse_found (λ f. f) (growth_refusal true site.limits site.collected site.dag r) ∷ []
+growth_refusals site r = refuse_found (λ f. f) (growth_refusal site.limits site.collected site.dag r) ∷ []
 
 -- the next state of the site, which the session committed
 abbrev pub committed : Site → ℕ → Record → Answer

@@ -10,6 +10,7 @@ use Rattle.tardis_base.specs.declared.records.Item.TheVariants.{State, Promise}
 use Rattle.tardis_base.specs.declared.replies.Refusal.TheVariants.{BadSite, OwnItem, ClosedParent, Comparable, OpenConflict, FloorBack}
 use Rattle.tardis_base.specs.declared.replies.Reply.{Reply}
 use Rattle.tardis_base.specs.declared.replies.Reply.TheVariants.{Batch as BatchIs, Done, Known, Early, Applied}
+use Rattle.tardis_base.specs.Sizes.{most_news}
 use Rattle.wire_item.specs.Spellings.{record_spelling}
 use Rattle.plain_dag.specs.States.{is_known, count_of_site}
 use Rattle.plain_dag.specs.Above.{is_above, comparable_pair}
@@ -51,7 +52,7 @@ consents_from n (f ∷ fs) =
 abbrev pub batch_for : Site → List ℕ → Batch
 batch_for site counts =
     record {
-      records = fitting 786432 (filter (is_news_for site counts) (in_arrival_order site.dag));
+      records = fitting most_news (filter (is_news_for site counts) (in_arrival_order site.dag));
       consents = consents_from 1 site.floors;
     }
 

@@ -15,7 +15,7 @@ use Rattle.plain_dag.specs.Floors.{Floor, Session, is_above_ceilings}
 use Rattle.plain_dag.specs.Collection.{is_kept, kept_states}
 use Rattle.plain_dag.specs.Paths.{fork_path}
 use Rattle.plain_dag.specs.Laws.{AreCollected}
-use Rattle.plain_site.specs.WaitingRoom.{most_waiting}
+use Rattle.tardis_base.specs.Sizes.{most_waiting}
 use Rattle.plain_site.specs.Site.{Site, Txn, Single, Merge, read_states, own_floor}
 
 -- at most 256 keys read, each once, and writes as a record has them; a merge has 1 to 8 states, ascending

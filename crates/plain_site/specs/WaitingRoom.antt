@@ -4,12 +4,9 @@ use Rattle.std.specs.List.{remove}
 use Rattle.std.specs.Option.{option_map}
 use Rattle.tardis_base.specs.declared.ids.StateId.{StateId}
 use Rattle.tardis_base.specs.declared.records.Record.{Record}
+use Rattle.tardis_base.specs.Sizes.{most_waiting}
 use Rattle.tardis_base.specs.Ids.{is_among}
 use Rattle.plain_dag.specs.States.{states}
-
--- the most records that wait
-abbrev pub most_waiting : ℕ
-most_waiting = 256
 
 -- a record of this id waits
 abbrev pub waits : List Record → StateId → Bool

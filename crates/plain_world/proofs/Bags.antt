@@ -12,6 +12,7 @@ use Rattle.tardis_base.specs.declared.records.Batch.{Batch}
 use Rattle.tardis_base.specs.declared.records.Item.{Item}
 use Rattle.tardis_base.specs.declared.records.Item.TheVariants.{State, Promise}
 use Rattle.tardis_base.specs.Valid.{is_u16, is_record}
+use Rattle.tardis_base.specs.Sizes.{most_news}
 use Rattle.wire_item.specs.Spellings.{record_spelling}
 use Rattle.wire_item.specs.Valid.{is_consent, is_item, is_batch, are_records, are_consents, are_ascending_numbers}
 use Rattle.plain_dag.specs.Floors.{Floor, opening_floor, floor_of}
@@ -147,7 +148,7 @@ module _ (world : World) (n : ℕ) (site : Site) (b : Batch) where
           let mine = subst (λ (c : Batch). IsOneOf r c.records) e one in
           let told = subst (λ (c : Batch). IsOneOf r c.records) own.1 mine in
           let news = filter (is_news_for site own.0) (in_arrival_order site.dag) in
-          let known = arrived-is-one site.dag r (filtered-is-one (is_news_for site own.0) (in_arrival_order site.dag) r (fitting-is-one 786432 news r told)) in
+          let known = arrived-is-one site.dag r (filtered-is-one (is_news_for site own.0) (in_arrival_order site.dag) r (fitting-is-one most_news news r told)) in
           HasRecord.in_history n site here known (record-parts r (all-one is_record b.records r (batch-parts b valid).records mine)).isnt_root
       | inr (inr none) ↦ absurd (none)
     ]

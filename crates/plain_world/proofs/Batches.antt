@@ -66,7 +66,7 @@ refuse-none site = record { not_open = refuses-none site NotOpen; no_txn = refus
 
 growth-none : (site : Site) (r : Record) → AllGood (Gives site) (growth_refusals site r)
 growth-none site r =
-    good-found (λ f. f) (growth_refusal true site.limits site.collected site.dag r) [] (λ f e. says-other site (Refused f) refl) good-none
+    good-found (λ f. f) (growth_refusal site.limits site.collected site.dag r) [] (λ f e. says-other site (Refused f) refl) good-none
 
 -- ===== Each request
 

@@ -105,7 +105,7 @@ module _ (P : Reply → Type 0) (full : (kept : ℕ) → P (Refused (Full kept))
   pub growth-reply : (site at : Site) (r : Record) (answer : Answer) → P answer.1 → P (unless at (growth_refusals site r) answer).1
   growth-reply site at r answer applied =
       let kept = length (kept_states site.dag site.collected) in
-      found-reply P at (λ f. f) (growth_refusal true site.limits site.collected site.dag r) [] answer
+      found-reply P at (λ f. f) (growth_refusal site.limits site.collected site.dag r) [] answer
       (λ f e. grows-by (kept == site.limits.max_kept) kept (long_path (r ∷ site.dag) site.collected site.limits.max_path) f e) (λ e. applied)
 
 module _ (world : World) (honest : IsHonest world) (m : ℕ) (a : Site) (here : site_at world.sites m ≡ Some a) where

@@ -23,9 +23,9 @@ use Rattle.record_store.specs.Stands.{StoreStands}
 -- the record was added, or refused as the history refuses it, or there was no memory; where it wasn't added the store
 -- stands for what it stood for
 abbrev pub AddedIn : Store → Store → List Record → List StateId → Record → Result Slot AddFault → Type 0
-AddedIn old new rs ks r (Ok slot) = (growth_refusal true old.table.limits ks rs r ≡ None) × StoreStands new (r ∷ rs) ks
-AddedIn old new rs ks r (Err (Full kept)) = (growth_refusal true old.table.limits ks rs r ≡ Some (IsFull kept)) × StoreStands new rs ks
-AddedIn old new rs ks r (Err (PathFull x n)) = (growth_refusal true old.table.limits ks rs r ≡ Some (IsPathFull x n)) × StoreStands new rs ks
+AddedIn old new rs ks r (Ok slot) = (growth_refusal old.table.limits ks rs r ≡ None) × StoreStands new (r ∷ rs) ks
+AddedIn old new rs ks r (Err (Full kept)) = (growth_refusal old.table.limits ks rs r ≡ Some (IsFull kept)) × StoreStands new rs ks
+AddedIn old new rs ks r (Err (PathFull x n)) = (growth_refusal old.table.limits ks rs r ≡ Some (IsPathFull x n)) × StoreStands new rs ks
 AddedIn old new rs ks r (Err NoMemory) = StoreStands new rs ks
 
 -- the table, all versions and the listed keys are as they were; only room for more may have grown

@@ -193,7 +193,7 @@ module _ (site : Site) (n : ℕ) (flags : EndFlags) (k : ℕ) where
       let over = own_count site == 4294967295 in
       unless-adds q site (refusals ++ refuse over SeqEnd ∷ growth_refusals site r) (committed site n r)
       (both-quiet q refusals (refuse over SeqEnd ∷ growth_refusals site r) quiet
-      (refuse-quiet q over SeqEnd (growth_refusals site r) (found-quiet q (λ f. f) (growth_refusal true site.limits site.collected site.dag r) [] tt))) refl
+      (refuse-quiet q over SeqEnd (growth_refusals site r) (found-quiet q (λ f. f) (growth_refusal site.limits site.collected site.dag r) [] tt))) refl
 
   commit_at-adds : (t : SingleTxn) (x : StateId) → Adds site (Commit flags k) (commit_at site n t flags k x)
   commit_at-adds t x =
@@ -251,7 +251,7 @@ taken-adds site r =
     let q = Deliver (State r) in
     unless-adds q site (judgements site r ++ growth_refusals site r) (with_record r site, Applied)
     (both-quiet q (judgements site r) (growth_refusals site r) (judged-quiet site r)
-    (found-quiet q (λ f. f) (growth_refusal true site.limits site.collected site.dag r) [] tt)) refl
+    (found-quiet q (λ f. f) (growth_refusal site.limits site.collected site.dag r) [] tt)) refl
 
 record-adds : (site : Site) (r : Record) → Adds site (Deliver (State r)) (deliver_record site r)
 record-adds site r =
@@ -286,7 +286,7 @@ settle-adds site =
     given-good (Adds site Settle) (first_fit_record site) (site, Done) (settle_record site) (λ none. refl)
     (λ found is.
     unless-adds Settle site (growth_refusals site found.1) (with_settled found site, Applied)
-    (found-quiet Settle (λ f. f) (growth_refusal true site.limits site.collected site.dag found.1) [] tt) refl)
+    (found-quiet Settle (λ f. f) (growth_refusal site.limits site.collected site.dag found.1) [] tt) refl)
 
 -- ===== Each request
 

@@ -112,7 +112,7 @@ one-more-kept rs ks r out =
 -- a history that stays within its limits was free to grow
 grows-within : (limits : Limits) (ks : List StateId) (rs : List Record) (r : Record) → length (kept_states rs ks) < limits.max_kept →
     ((x : StateId) → IsTrue (is_kept (r ∷ rs) ks x) → length (fork_path (r ∷ rs) ks x) ≤ limits.max_path) →
-    growth_refusal true limits ks rs r ≡ None
+    growth_refusal limits ks rs r ≡ None
 grows-within limits ks rs r room short =
     let kept = length (kept_states rs ks) in
     let most = limits.max_path in
@@ -157,14 +157,14 @@ none-from-is_none (Some a) h = absurd (cc)
 module _ (site : Site) (r : Record) where
   record-fits : IsTrue (is_record r) → IsNext site.dag r → r.id.site ≤ site.limits.sites →
       ((p : StateId) → IsTrue (is_among p r.parents) → IsFalse (is_closed site.dag site.floors p)) →
-      growth_refusal true site.limits site.collected site.dag r ≡ None → IsTrue (fits site (News (State r)))
+      growth_refusal site.limits site.collected site.dag r ≡ None → IsTrue (fits site (News (State r)))
   record-fits valid next of_a_site free grows =
       let rs = site.dag in
       let count = count_of_site rs r.id.site in
       let closed = find (is_closed rs site.floors) r.parents in
       let pair = comparable_pair rs r.parents in
       let conflict = open_conflict rs r.parents r.writes in
-      let grown = growth_refusal true site.limits site.collected rs r in
+      let grown = growth_refusal site.limits site.collected rs r in
       let seven : List (Option Reply) = refuse_found OpenConflict conflict ∷ [] in
       let six : List (Option Reply) = refuse_found (λ (p : StateId × StateId). Comparable p.0 p.1) pair ∷ seven in
       let five : List (Option Reply) = refuse_found ClosedParent closed ∷ six in
@@ -200,7 +200,7 @@ module _ (site : Site) (r : Record) where
   record-is-next sound valid fit =
       let rs = site.dag in
       let count = count_of_site rs r.id.site in
-      let grown = growth_refusal true site.limits site.collected rs r in
+      let grown = growth_refusal site.limits site.collected rs r in
       let one = refuse (nat_lt site.limits.sites r.id.site) (BadSite r.id.site) in
       let two = when (nat_le r.id.sequence count) Known in
       let three = refuse (r.id.site == 0) (OwnItem r.id.site r.id.sequence) in

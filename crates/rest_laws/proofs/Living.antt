@@ -74,20 +74,20 @@ one-leads site n q small valid = record {
 abbrev HasSettled : Site → Answer → Type 0
 HasSettled site answer =
     ((answer.0 ≡ site) × (answer.1 ≡ Applied → ⊥))
-    ⊎ ((found : ℕ × Record) × (first_fit_record site ≡ Some found) × (growth_refusal true site.limits site.collected site.dag found.1 ≡ None)
+    ⊎ ((found : ℕ × Record) × (first_fit_record site ≡ Some found) × (growth_refusal site.limits site.collected site.dag found.1 ≡ None)
     × (answer ≡ (with_settled found site, Applied)))
 
 has-settled : (site : Site) → HasSettled site (settle site)
 has-settled site = go (first_fit_record site) refl
   where
-    grown : (found : ℕ × Record) (o : Option Refusal) → growth_refusal true site.limits site.collected site.dag found.1 ≡ o → first_fit_record site ≡ Some found →
+    grown : (found : ℕ × Record) (o : Option Refusal) → growth_refusal site.limits site.collected site.dag found.1 ≡ o → first_fit_record site ≡ Some found →
         HasSettled site (unless site (refuse_found (λ f. f) o ∷ []) (with_settled found site, Applied))
     grown found None e is = inr (found, is, e, refl)
     grown found (Some refusal) e is = inl (refl, λ d. absurd (cc))
 
     go : (o : Option (ℕ × Record)) → first_fit_record site ≡ o → HasSettled site (given o (site, Done) (settle_record site))
     go None e = inl (refl, λ d. absurd (cc))
-    go (Some found) e = grown found (growth_refusal true site.limits site.collected site.dag found.1) refl e
+    go (Some found) e = grown found (growth_refusal site.limits site.collected site.dag found.1) refl e
 
 unless-none : (site : Site) (replies : List (Option Reply)) (answer : Answer) → AreNone replies → unless site replies answer ≡ answer
 unless-none site [] answer none = refl
@@ -96,7 +96,7 @@ unless-none site (Some reply ∷ more) answer none = absurd (cc)
 
 -- what Settle took is delivered where nothing waits
 delivered-dry : (site : Site) (n : ℕ) (found : ℕ × Record) → IsTrue (is_fit site found.1) →
-    growth_refusal true site.limits site.collected site.dag found.1 ≡ None → step (dry site) n (Deliver (State found.1)) ≡ (dry (with_settled found site), Applied)
+    growth_refusal site.limits site.collected site.dag found.1 ≡ None → step (dry site) n (Deliver (State found.1)) ≡ (dry (with_settled found site), Applied)
 delivered-dry site n found fit grows =
     let r = found.1 in
     let none : AreNone (judgements site r ++ growth_refusals site r) =

@@ -132,7 +132,7 @@ module _ (site : Site) (n : ℕ) (parents : List StateId) (writes : List KeyWrit
   r = next_record site parents writes
 
   abbrev growth : Option Refusal
-  growth = growth_refusal true site.limits site.collected site.dag (next_record site parents writes)
+  growth = growth_refusal site.limits site.collected site.dag (next_record site parents writes)
 
   pub below-commits : (own_count site == 4294967295) ≡ false → ◌≡◌ {A = Option Refusal} growth None → commit_below site n parents writes [] ≡ committed site n r
   below-commits e f =
@@ -256,7 +256,7 @@ ended-taken n f es taken after left ended = ended ∙ ap (without_entry n) left 
 pub commit-gives : (core : Core) (site : Site) → CoreStands core site → (n : ℕ) (xs : List StateId) (ws : List KeyWrite) (store : Store) (book : Book)
     (es : List (ℕ × Kept)) (id : StateId) (parents : List StateId) →
     (own_count site == 4294967295) ≡ false → id ≡ next_id site → parents ≡ xs →
-    (◌≡◌ {A = Option Refusal} (growth_refusal true core.store.table.limits site.collected site.dag (next_record site xs ws)) None)
+    (◌≡◌ {A = Option Refusal} (growth_refusal core.store.table.limits site.collected site.dag (next_record site xs ws)) None)
     × StoreStands store (next_record site xs ws ∷ site.dag) site.collected →
     KeepsSlots core.store.table store.table → store.table.limits ≡ core.store.table.limits → KeepsRest core.book book →
     sessions_of book ≡ changed n (after_commit (next_record site xs ws ∷ site.dag) (next_id site)) (sessions_of core.book) →
@@ -265,7 +265,7 @@ pub commit-gives : (core : Core) (site : Site) → CoreStands core site → (n :
 commit-gives core site stands n xs ws store book es id parents more named below (room, store_stands) keeps limits rest sessions placed e =
     let r = next_record site xs ws in
     as-given (CoreStands (record core { store = store; book = book; txns = es })) (commit_below site n xs ws []) (committed site n r) (Committed id parents)
-    (below-commits site n xs ws more (ap (λ l. growth_refusal true l site.collected site.dag r) (sym stands.limits) ∙ room))
+    (below-commits site n xs ws more (ap (λ l. growth_refusal l site.collected site.dag r) (sym stands.limits) ∙ room))
     (grown-stands core site r store book n es stands store_stands keeps limits rest sessions placed e, ap₂ Committed named below)
 
 -- it isn't added
@@ -275,10 +275,10 @@ pub commit-stops : (core : Core) (site : Site) → CoreStands core site → (n :
     Stops (CoreStands (record core { store = store })) (commit_below site n xs ws []) site (add_stop fault)
 commit-stops core site stands n xs ws store fault more added same = go fault added
   where
-    refuses : (refusal : Refusal) → growth_refusal true core.store.table.limits site.collected site.dag (next_record site xs ws) ≡ Some refusal →
+    refuses : (refusal : Refusal) → growth_refusal core.store.table.limits site.collected site.dag (next_record site xs ws) ≡ Some refusal →
         commit_below site n xs ws [] ≡ refused site refusal
     refuses refusal full = below-refuses site n xs ws refusal more
-        (ap (λ l. growth_refusal true l site.collected site.dag (next_record site xs ws)) (sym stands.limits) ∙ full)
+        (ap (λ l. growth_refusal l site.collected site.dag (next_record site xs ws)) (sym stands.limits) ∙ full)
 
     go : (f : AddFault) → AddedIn core.store store site.dag site.collected (next_record site xs ws) (Err f) →
         Stops (CoreStands (record core { store = store })) (commit_below site n xs ws []) site (add_stop f)

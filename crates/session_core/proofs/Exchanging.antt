@@ -159,7 +159,7 @@ module _ (site : Site) (r : Record) where
   pub delivered-fit : ◌≡◌ {A = Option Reply} (first_reply (judgements site r)) None → deliver_record site r ≡ unless site (growth_refusals site r) joined
   delivered-fit e =
       ap answered (first-passes site (growth_refusals site r) joined (judgements site r) e)
-      ∙ grown-answered (growth_refusal true site.limits site.collected site.dag r)
+      ∙ grown-answered (growth_refusal site.limits site.collected site.dag r)
 
 -- an early record is held
 pub early-held : (core : Core) (site : Site) (r : Record) (room : List Record) → CoreStands core site → room ≡ hold r core.waiting →
@@ -230,21 +230,21 @@ grown-parts a store held keeps limits = record {
 
 -- a record that joins the site, or the room that is wanting for it
 module _ (core : Core) (site : Site) (r : Record) (store : Store) (stands : CoreStands core site) where
-  growth-same : growth_refusal true core.store.table.limits site.collected site.dag r ≡ growth_refusal true site.limits site.collected site.dag r
-  growth-same = ap (λ l. growth_refusal true l site.collected site.dag r) stands.limits
+  growth-same : growth_refusal core.store.table.limits site.collected site.dag r ≡ growth_refusal site.limits site.collected site.dag r
+  growth-same = ap (λ l. growth_refusal l site.collected site.dag r) stands.limits
 
   pub growth-free : (answer : Answer) (slot : Slot) → AddedIn core.store store site.dag site.collected r (Ok slot) →
       unless site (growth_refusals site r) answer ≡ answer
-  growth-free answer slot (free, there) = skip-found site (λ (g : Refusal). g) (growth_refusal true site.limits site.collected site.dag r) [] answer
+  growth-free answer slot (free, there) = skip-found site (λ (g : Refusal). g) (growth_refusal site.limits site.collected site.dag r) [] answer
       (sym growth-same ∙ free)
 
   pub growth-stops : (answer : Answer) (fault : AddFault) → AddedIn core.store store site.dag site.collected r (Err fault) → store.table ≡ core.store.table →
       Stops (CoreStands (record core { store = store })) (unless site (growth_refusals site r) answer) site (add_stop fault)
   growth-stops answer fault added same = go fault added
     where
-      refuses : (refusal : Refusal) → growth_refusal true core.store.table.limits site.collected site.dag r ≡ Some refusal →
+      refuses : (refusal : Refusal) → growth_refusal core.store.table.limits site.collected site.dag r ≡ Some refusal →
           unless site (growth_refusals site r) answer ≡ refused site refusal
-      refuses refusal full = stop-found site (λ (g : Refusal). g) (growth_refusal true site.limits site.collected site.dag r) refusal [] answer
+      refuses refusal full = stop-found site (λ (g : Refusal). g) (growth_refusal site.limits site.collected site.dag r) refusal [] answer
           (sym growth-same ∙ full)
 
       go : (f : AddFault) → AddedIn core.store store site.dag site.collected r (Err f) →

@@ -118,7 +118,7 @@ below-keeps : (site : Site) (n : ℕ) (xs : List StateId) (ws : List KeyWrite) �
 below-keeps site n xs ws sound may =
     let r = next_record site xs ws in
     let over = own_count site == 4294967295 in
-    let grown = growth_refusal true site.limits site.collected site.dag r in
+    let grown = growth_refusal site.limits site.collected site.dag r in
     unless-keeps IsSound site sound (refuse over SeqEnd ∷ growth_refusals site r) (committed site n r)
     (λ none.
     let second = none-parts (refuse over SeqEnd) (growth_refusals site r) none in

@@ -84,7 +84,7 @@ module _ (site : Site) (r : Record) where
   judged = first_reply (judgements (nameless site) r)
 
   abbrev grown : Option Refusal
-  grown = growth_refusal true site.limits site.collected site.dag r
+  grown = growth_refusal site.limits site.collected site.dag r
 
   record-fits : fits site (News (State r)) ≡ (is_none judged && is_none grown)
   record-fits =

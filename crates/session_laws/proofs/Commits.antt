@@ -43,8 +43,8 @@ module _ (core : Core) (a b : Site) (on_a : SiteStands core a) (on_b : SiteStand
       let ha = history table a.dag a.collected on_a.0.store.table in
       let hb = history table b.dag b.collected on_b.0.store.table in
       ap (λ o. refuse_found (λ f. f) o ∷ [])
-      (refusal-alike a.dag a.collected b.dag b.collected r ha hb (sites-alike core a b on_a on_b) at_a at_b true a.limits
-      ∙ ap (λ l. growth_refusal true l b.collected b.dag r) (limits-alike core a b on_a on_b))
+      (refusal-alike a.dag a.collected b.dag b.collected r ha hb (sites-alike core a b on_a on_b) at_a at_b a.limits
+      ∙ ap (λ l. growth_refusal l b.collected b.dag r) (limits-alike core a b on_a on_b))
 
   -- the next record is the same
   record-alike : (xs : List StateId) (ws : List KeyWrite) → next_record a xs ws ≡ next_record b xs ws

@@ -125,10 +125,10 @@ module _ (ra : List Record) (ka : List StateId) (rb : List Record) (kb : List St
   }
 
   -- both grow by the record, or neither does, for the same reason
-  pub refusal-alike : (tries : Bool) (limits : Limits) → growth_refusal tries limits ka ra r ≡ growth_refusal tries limits kb rb r
-  refusal-alike tries limits =
+  pub refusal-alike : (limits : Limits) → growth_refusal limits ka ra r ≡ growth_refusal limits kb rb r
+  refusal-alike limits =
       let told : StateId × ℕ → Refusal = λ p. PathFull p.0 p.1 in
       let count = ap length alike.same_kept in
       let path = long-path-alike (r ∷ ra) ka (r ∷ rb) kb (grown-history ra ka r ha on_a) (grown-history rb kb r hb on_b) grown-alike limits.max_path in
-      let answer : ℕ → Option (StateId × ℕ) → Option Refusal = λ n o. cond (eqb n limits.max_kept) (Some (Full n)) (cond tries (option_map told o) None) in
+      let answer : ℕ → Option (StateId × ℕ) → Option Refusal = λ n o. cond (eqb n limits.max_kept) (Some (Full n)) (option_map told o) in
       ap₂ answer count path

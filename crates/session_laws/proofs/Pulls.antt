@@ -16,6 +16,7 @@ use Rattle.tardis_base.specs.declared.replies.Reply.TheVariants.{Batch as BatchI
 use Rattle.tardis_base.specs.Ids.{is_among}
 use Rattle.tardis_base.specs.Keys.{KeyWrite, has_key, write_of}
 use Rattle.tardis_base.proofs.WriteSets.{write_of-missing}
+use Rattle.tardis_base.specs.Sizes.{most_news}
 use Rattle.plain_dag.specs.States.{is_known, record_at, write_at}
 use Rattle.plain_dag.specs.Writers.{latest_writer, version_at, read}
 use Rattle.plain_dag.specs.Dag.{IsDag}
@@ -137,7 +138,7 @@ module _ (core : Core) (a b : Site) (on_a : SiteStands core a) (on_b : SiteStand
     batch-alike : batch_for a counts ≡ batch_for b counts
     batch-alike =
         let made : List Record → List Consent → Batch = λ rs cs. record { records = rs; consents = cs } in
-        ap₂ made (ap (fitting 786432) all-news-alike) (ap (consents_from 1) (floors-alike core a b on_a on_b))
+        ap₂ made (ap (fitting most_news) all-news-alike) (ap (consents_from 1) (floors-alike core a b on_a on_b))
 
     pub pull-alike : ReplyAlike (pull a counts) (pull b counts)
     pull-alike =

@@ -3,6 +3,7 @@ use Rattle.std.specs.Prelude.{◌≡◌, ℕ, Bool, ◌-◌, ◌&&◌, not, nat_
 use Rattle.std.specs.Prelude.{if◌then◌else◌}
 use Rattle.tardis_base.specs.declared.ids.StateId.{StateId}
 use Rattle.tardis_base.specs.declared.records.Record.{Record}
+use Rattle.tardis_base.specs.Sizes.{most_news}
 use Rattle.wire_item.specs.Spellings.{record_spelling}
 use Rattle.plain_dag.specs.States.{record_at}
 use Rattle.plain_dag.specs.Floors.{is_above_floors}
@@ -15,7 +16,7 @@ is_news site counts x = nat_lt (unwrap_or (slice_get counts (x.site - 1)) 0) x.s
 
 -- the records of the batch for these counts
 abbrev pub news_for : Site → List ℕ → List Record
-news_for site counts = fitting 786432 (filter (is_news_for site counts) (in_arrival_order site.dag))
+news_for site counts = fitting most_news (filter (is_news_for site counts) (in_arrival_order site.dag))
 
 -- what is left of so much room behind so many bytes, where they fit
 abbrev pub left_of : ℕ → ℕ → Option ℕ

@@ -3,6 +3,7 @@
 ghost use Rattle.std.specs.Prelude.{◌≡◌, ◌≤◌, ◌-◌, List, Some, IfSome, length, slice_get, unwrap_or, sum_by, IsTrue, IfOk};
 ghost use Rattle.tardis_base.specs.declared.ids.StateId.{StateId};
 ghost use Rattle.tardis_base.specs.declared.records.Record.{Record};
+ghost use Rattle.tardis_base.specs.Sizes.{most_news};
 ghost use Rattle.wire_item.specs.Spellings.{record_spelling};
 ghost use Rattle.wire_item.specs.Lengths.{key_write_length};
 ghost use Rattle.state_dag.specs.Table.{id_at, is_slot};
@@ -19,11 +20,10 @@ use ceiling_book::CeilingBook;
 use record_store::RecordStore;
 use state_dag::StateDag;
 use std::alloc::Global;
-use tardis_base::{Batch, Consent, ConsentList, Key, NoMemory, Record, RecordList, Slot, Write};
+use tardis_base::{
+    Batch, Consent, ConsentList, Key, MAX_NEWS, NoMemory, Record, RecordList, Slot, Write,
+};
 use wire_item::key_write_len;
-
-/// How many bytes the records of a batch have at most, all spellings together.
-const MOST_BYTES: usize = 786_432;
 
 /// The news for whoever has these counts, one for each site, as far as it fits a batch, and all consents.
 ///
@@ -57,7 +57,7 @@ fn news_for(
         → IfOk result (λ news. news ≡ news_for site counts.now) }
 {
     let mut news = RecordList::new(alloc);
-    let mut room = MOST_BYTES;
+    let mut room = MAX_NEWS;
     for slot in store.dag().kept_slots() {
         if is_news(store.dag(), book, counts, *slot) {
             match give(store, *slot, room, &mut news)? {
@@ -77,10 +77,10 @@ fn give(
     news: &mut RecordList,
 ) -> Result<Option<usize>, NoMemory>
     requires slot { IsTrue (is_slot store.now.table slot) }
-    requires room { room ≤ 786432 }
+    requires room { room ≤ most_news }
     ensures given { (rs : List Record) (ks : List StateId) → StoreStands store.now rs ks → (x : StateId) → id_at store.now.table slot ≡ Some x
         → StandsAlone rs ks x → IfOk result (λ left. GivenIn rs x room news.old news.new left) }
-    ensures within { IfOk result (λ left. IfSome left (λ n. n ≤ 786432)) }
+    ensures within { IfOk result (λ left. IfSome left (λ n. n ≤ most_news)) }
 {
     let record = store.record_of(slot)?;
     match room_behind(&record, room) {
@@ -115,7 +115,7 @@ fn count_for(counts: &[u32], site: u16) -> u32
 
 /// How many of so many bytes are left behind the record's spelling; None exactly where that has more.
 fn room_behind(rec: &Record, room: usize) -> Option<usize>
-    requires { room ≤ 786432 }
+    requires { room ≤ most_news }
     ensures { result ≡ left_of room (length (record_spelling rec.now)) }
 {
     let parents = rec.parents.len();

@@ -2,15 +2,13 @@
 
 ghost use Rattle.std.specs.Prelude.{◌≡◌, ◌<◌, ◌≤◌, [], length, slice_get, Some, IfOk};
 ghost use Rattle.tardis_base.specs.Ids.{same_id};
+ghost use Rattle.tardis_base.specs.Sizes.{most_waiting};
 ghost use Rattle.plain_site.specs.WaitingRoom.{waits, hold, without};
 ghost use Rattle.site_exchange.specs.Rooms.{handed_back, pushed_out, with_room};
 
 use std::alloc::Global;
 use std::marker::Model;
-use tardis_base::{NoMemory, Record, StateId};
-
-/// How many records wait at most.
-const MOST_WAITING: usize = 256;
+use tardis_base::{MAX_WAITING, NoMemory, Record, StateId};
 
 /// The records that wait, in the order of their coming.
 #[derive(Drop)]
@@ -21,12 +19,13 @@ pub struct WaitRoom {
 impl Model for WaitRoom {
     ghost use Rattle.std.specs.Prelude.{List, ◌≤◌, vec_capacity, vec_len};
     ghost use Rattle.tardis_base.specs.declared.records.Record.{Record};
+    ghost use Rattle.tardis_base.specs.Sizes.{most_waiting};
 
     ghost Value = { List Record };
 
     ghost view = { λ a. a.records.items };
 
-    ghost invariant = { λ a. (vec_len a.records ≤ 256) × (256 ≤ vec_capacity a.records) };
+    ghost invariant = { λ a. (vec_len a.records ≤ most_waiting) × (most_waiting ≤ vec_capacity a.records) };
 }
 
 impl WaitRoom {
@@ -35,7 +34,7 @@ impl WaitRoom {
         ensures { IfOk result (λ room. room ≡ []) }
     {
         Ok(WaitRoom {
-            records: Vec::with_capacity(alloc, MOST_WAITING)?,
+            records: Vec::with_capacity(alloc, MAX_WAITING)?,
         })
     }
 
@@ -56,7 +55,7 @@ impl WaitRoom {
     /// How many records wait.
     pub fn len(&self) -> u16
         ensures count { result ≡ length self.now }
-        ensures within { length self.now ≤ 256 }
+        ensures within { length self.now ≤ most_waiting }
     {
         self.records.len() as u16
     }
@@ -82,9 +81,9 @@ impl WaitRoom {
     fn push_out(&mut self) -> Option<Record>
         ensures room { self.new ≡ with_room self.old }
         ensures first { result ≡ pushed_out self.old }
-        ensures below { length self.new < 256 }
+        ensures below { length self.new < most_waiting }
     {
-        if self.records.len() == MOST_WAITING {
+        if self.records.len() == MAX_WAITING {
             Some(self.records.remove(0))
         } else {
             None

@@ -36,7 +36,7 @@ record HasRoom (table : Table) (ks : List StateId) (rs : List Record) (r : Recor
   unfilled : length (kept_states rs ks) ≡ table.limits.max_kept → ⊥
   short : find (λ x. ltb table.limits.max_path (length (fork_path (r ∷ rs) ks x))) (kept_states (r ∷ rs) ks) ≡ None
 
-has-room : (table : Table) (ks : List StateId) (rs : List Record) (r : Record) → growth_refusal true table.limits ks rs r ≡ None → HasRoom table ks rs r
+has-room : (table : Table) (ks : List StateId) (rs : List Record) (r : Record) → growth_refusal table.limits ks rs r ≡ None → HasRoom table ks rs r
 has-room table ks rs r none = elim (cases_Bool (eqb (length (kept_states rs ks)) table.limits.max_kept)) [
   | inl t ↦ absurd (none-some (IsFull (length (kept_states rs ks))) (sym (rw t at none)))
   | inr f ↦ record {
@@ -59,12 +59,12 @@ none-passes p xs e = not-true (list_any p xs) (sym (none-found p xs) ∙ ap is_n
 -- the table's refusal is the history's
 pub refusal-is : (table : Table) (rs : List Record) (ks : List StateId) (r : Record) (parents : List Slot) (path : List (ℕ × ℕ)) →
     Stands table rs ks → MayBeAdded table rs ks r parents → IsNewPath table parents path →
-    growth_refusal true table.limits ks rs r ≡ refusal_of table r.id parents (length path)
+    growth_refusal table.limits ks rs r ≡ refusal_of table r.id parents (length path)
 refusal-is = refused
 
 -- a table that has grown, where the history may, stands for the history that has
 pub grows : (old new : Table) (rs : List Record) (ks : List StateId) (r : Record) (parents : List Slot) (slot : Slot) →
-    Stands old rs ks → MayBeAdded old rs ks r parents → growth_refusal true old.limits ks rs r ≡ None →
+    Stands old rs ks → MayBeAdded old rs ks r parents → growth_refusal old.limits ks rs r ≡ None →
     IsGrown old new r.id parents slot → Stands new (r ∷ rs) ks
 grows old new rs ks r parents slot stands may none g = record {
   dag = next-is-dag rs r stands.dag may.next;

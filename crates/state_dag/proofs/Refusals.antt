@@ -119,7 +119,7 @@ kept-next table rs ks r stands new =
 
 pub refused : (table : Table) (rs : List Record) (ks : List StateId) (r : Record) (parents : List Slot) (path : List (ℕ × ℕ)) →
     Stands table rs ks → MayBeAdded table rs ks r parents → IsNewPath table parents path →
-    growth_refusal true table.limits ks rs r ≡ refusal_of table r.id parents (length path)
+    growth_refusal table.limits ks rs r ≡ refusal_of table r.id parents (length path)
 refused table rs ks r parents path stands may is =
     let most = table.limits.max_path in
     let long : Entry → ℕ = grown_length table parents in

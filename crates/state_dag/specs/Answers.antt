@@ -25,9 +25,9 @@ pub record MayBeAdded (table : Table) (rs : List Record) (ks : List StateId) (r 
 -- the record was added, or refused as the history refuses it, or there was no memory; where it wasn't added the table is
 -- as before
 abbrev pub AddedTo : Table → Table → List Record → List StateId → Record → Result Slot AddFault → Type 0
-AddedTo old new rs ks r (Ok slot) = (growth_refusal true old.limits ks rs r ≡ None) × Stands new (r ∷ rs) ks
-AddedTo old new rs ks r (Err (Full kept)) = (growth_refusal true old.limits ks rs r ≡ Some (IsFull kept)) × (new ≡ old)
-AddedTo old new rs ks r (Err (PathFull x n)) = (growth_refusal true old.limits ks rs r ≡ Some (IsPathFull x n)) × (new ≡ old)
+AddedTo old new rs ks r (Ok slot) = (growth_refusal old.limits ks rs r ≡ None) × Stands new (r ∷ rs) ks
+AddedTo old new rs ks r (Err (Full kept)) = (growth_refusal old.limits ks rs r ≡ Some (IsFull kept)) × (new ≡ old)
+AddedTo old new rs ks r (Err (PathFull x n)) = (growth_refusal old.limits ks rs r ≡ Some (IsPathFull x n)) × (new ≡ old)
 AddedTo old new rs ks r (Err NoMemory) = new ≡ old
 
 -- a new slot, which named no kept state and now names this one

@@ -3,6 +3,7 @@ use Rattle.std.specs.Option.{IfSome}
 use Rattle.tardis_base.specs.declared.ids.StateId.{StateId}
 use Rattle.tardis_base.specs.declared.ids.Slot.{Slot}
 use Rattle.tardis_base.specs.declared.records.Record.{Record}
+use Rattle.tardis_base.specs.Sizes.{most_news}
 use Rattle.plain_dag.specs.Collection.{kept_states}
 use Rattle.state_dag.specs.Table.{Table, id_at}
 use Rattle.state_dag.specs.Stands.{Stands}
@@ -30,8 +31,8 @@ loop-slot-init c = record {
   room = omega arith;
   news = λ site stands book.
       let all = records_of site.dag (filter (is_news site c.args.counts.now) (kept_states site.dag site.collected)) in
-      ap (fitting 786432) (news-kept c.args.store.now.table c.args.book.now site stands.table book c.args.counts.now)
-      ∙ ap (λ z. z ++ fitting 786432 all) (sym c.new-news.ensures);
+      ap (fitting most_news) (news-kept c.args.store.now.table c.args.book.now site stands.table book c.args.counts.now)
+      ∙ ap (λ z. z ++ fitting most_news all) (sym c.new-news.ensures);
 }
 
 pub returns-in-None : goal.returns-in-None
@@ -64,8 +65,8 @@ loop-slot-preserved c =
     record {
       room = elim c.if-is_news.branch [
         | then-is_news+in_ok-left+in-Some w ↦
-            subst (λ m. m ≤ 786432) (sym w.room-is) (subst (λ o. IfSome o (λ m. m ≤ 786432)) w.in-Some.is w.in_ok-left.ensures.within)
-        | else-is_news w ↦ subst (λ m. m ≤ 786432) (sym w.room-is) c.loop-slot.invariant.room
+            subst (λ m. m ≤ most_news) (sym w.room-is) (subst (λ o. IfSome o (λ m. m ≤ most_news)) w.in-Some.is w.in_ok-left.ensures.within)
+        | else-is_news w ↦ subst (λ m. m ≤ most_news) (sym w.room-is) c.loop-slot.invariant.room
       ];
       news = λ site stands book.
           let zs = kept_states site.dag site.collected in
