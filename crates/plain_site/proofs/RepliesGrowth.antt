@@ -1,6 +1,6 @@
 -- Fork paths are valid and not too many, and so are the refusals of growth.
-use Rattle.std.proofs.Common.{◌≡◌, ℕ, zero, suc, ◌+◌, ◌*◌, ◌≤◌, ◌<◌, ◌^◌, Bool, true, false, ◌&&◌, ◌==◌, not, List, [], ◌∷◌, ◌++◌, length, filter, find, map}
-use Rattle.std.proofs.Common.{if◌then◌else◌, Option, Some, None, nat_lt, IsTrue, refl, sym, ◌∙◌, ap, subst, inl, inr, arith, lt-ltb, length-append}
+use Rattle.std.proofs.Common.{◌≡◌, ℕ, zero, suc, ◌+◌, ◌*◌, ◌≤◌, ◌<◌, ◌^◌, Bool, ◌&&◌, ◌==◌, not, List, [], ◌∷◌, ◌++◌, length, filter, find, map}
+use Rattle.std.proofs.Common.{Option, Some, None, nat_lt, IsTrue, refl, sym, ◌∙◌, ap, subst, inl, inr, arith, lt-ltb, length-append}
 use Rattle.std.proofs.lemmas.Bool.{and_from, cases_Bool, cond-true, cond-false}
 use Rattle.std.proofs.lemmas.Option.{none-some, same_Some}
 use Rattle.std.proofs.lemmas.List.FromFn.{length-map-range_with_len}

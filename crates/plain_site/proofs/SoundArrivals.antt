@@ -1,5 +1,5 @@
 -- A site to which a next record arrives stays sound, where no parent of it is closed and nothing speaks against growth.
-use Rattle.std.proofs.Common.{◌≡◌, ℕ, ◌+◌, ◌<◌, ◌≤◌, Bool, true, not, cond, List, [], ◌∷◌, length, find, Option, Some, None, IsTrue, IsFalse, ◌≢◌, inl, inr}
+use Rattle.std.proofs.Common.{◌≡◌, ℕ, ◌+◌, ◌<◌, ◌≤◌, Bool, not, List, [], ◌∷◌, length, find, Option, Some, None, IsTrue, IsFalse, ◌≢◌, inl, inr}
 use Rattle.std.proofs.Common.{refl, sym, ap, ap₂, ◌∙◌, arith, length-append}
 use Rattle.std.specs.Prelude.{◌==◌, ◌&&◌, ◌||◌, nat_le, nat_lt}
 use Rattle.std.specs.List.{list_all, list_any}
@@ -187,7 +187,7 @@ arrival-keeps site r sound next of_a_site free grows =
           and_from (nat_le r.id.site site.limits.sites) (list_all (λ (x : StateId). nat_le x.site site.limits.sites) (states rs))
           (le-leb r.id.site site.limits.sites of_a_site) sound.of_the_sites;
       few_kept = omega arith;
-      short_paths = growth.short refl;
+      short_paths = growth.short;
       few_children = few-children-stay rs r dag next site.floors site.collected site.limits.max_kept free sound.collected room sound.few_children;
       few_sessions = sound.few_sessions;
       session_numbers = sound.session_numbers;

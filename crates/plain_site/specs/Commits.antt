@@ -1,5 +1,5 @@
 -- Transactions end.
-use Rattle.std.specs.Prelude.{ℕ, true, ◌==◌, not, List, [], ◌∷◌, ◌++◌, length, Option}
+use Rattle.std.specs.Prelude.{ℕ, ◌==◌, not, List, [], ◌∷◌, ◌++◌, length, Option}
 use Rattle.tardis_base.specs.declared.ids.StateId.{StateId}
 use Rattle.tardis_base.specs.declared.records.Record.{Record}
 use Rattle.tardis_base.specs.declared.requests.EndFlags.{EndFlags}
