@@ -1,5 +1,5 @@
 -- What is collected is unseen.
-use Rattle.std.proofs.Common.{◌≡◌, true, ℕ, ◌≤◌, not, List, [], ◌∷◌, length, Option, Some, None, IsFalse, refl, sym, ap, subst, ◌∙◌}
+use Rattle.std.proofs.Common.{◌≡◌, ℕ, ◌≤◌, not, List, [], ◌∷◌, length, Option, Some, None, IsFalse, refl, sym, ap, subst, ◌∙◌}
 use Rattle.std.proofs.lemmas.Bool.{both_ways}
 use Rattle.std.proofs.lemmas.Option.{none-some}
 use Rattle.tardis_base.specs.declared.ids.StateId.{StateId}

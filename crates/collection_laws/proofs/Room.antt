@@ -1,7 +1,7 @@
 -- Who collected more has more room.
 use Rattle.std.proofs.Common.{◌≡◌, ℕ, ◌+◌, ◌≤◌, Bool, not, cond, List, [], ◌∷◌, length, filter, find, Option, Some, None, IsTrue, IsFalse, inl, inr}
 use Rattle.std.proofs.Common.{refl, sym, ap, ◌∙◌, arith}
-use Rattle.std.specs.Prelude.{◌==◌, nat_lt, flat_map, if◌then◌else◌}
+use Rattle.std.specs.Prelude.{◌==◌, nat_lt, flat_map}
 use Rattle.std.specs.Option.{option_map}
 use Rattle.std.proofs.lemmas.Bool.{cases_Bool, both_ways, cond-true, cond-false, eqb-false, ne_eqb, ltb-true, lt-ltb}
 use Rattle.std.proofs.lemmas.List.{length-append}

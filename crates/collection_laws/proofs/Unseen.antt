@@ -1,6 +1,6 @@
 -- Answers of two sites that agree in all but their collected states, through the words of the step.
-use Rattle.std.proofs.Common.{◌≡◌, true, ℕ, Bool, List, [], ◌∷◌, ◌++◌, length, Option, Some, None, IsTrue, IsFalse, refl}
-use Rattle.std.specs.Prelude.{◌==◌, if◌then◌else◌}
+use Rattle.std.proofs.Common.{◌≡◌, ℕ, List, [], ◌∷◌, ◌++◌, length, Option, Some, None, IsTrue, IsFalse, refl}
+use Rattle.std.specs.Prelude.{◌==◌}
 use Rattle.std.specs.Option.{option_map}
 use Rattle.std.proofs.lemmas.Bool.{both_ways, cond_both}
 use Rattle.tardis_base.specs.declared.ids.StateId.{StateId}
