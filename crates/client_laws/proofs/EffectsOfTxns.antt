@@ -1,5 +1,5 @@
 -- What requests of transactions do.
-use Rattle.std.proofs.Common.{◌≡◌, true, ℕ, not, List, [], ◌∷◌, ◌++◌, length, Option, Some, None, IsTrue, IsFalse, inl, inr, refl, sym, ap, subst, ◌∙◌}
+use Rattle.std.proofs.Common.{◌≡◌, ℕ, not, List, [], ◌∷◌, ◌++◌, length, Option, Some, None, IsTrue, IsFalse, inl, inr, refl, sym, ap, subst, ◌∙◌}
 use Rattle.std.specs.Prelude.{◌==◌, ◌&&◌, nat_lt, find}
 use Rattle.std.proofs.lemmas.Bool.{and_from, and_right, cond-true, cond-false, not_from_false, not_from_true}
 use Rattle.std.specs.Option.{option_map}

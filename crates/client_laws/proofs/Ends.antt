@@ -1,5 +1,5 @@
 -- Transactions that wrote nothing, and records of other sites.
-use Rattle.std.proofs.Common.{◌≡◌, true, ℕ, not, List, [], ◌∷◌, ◌++◌, length, Option, Some, None, refl, sym, ap, subst, ◌∙◌}
+use Rattle.std.proofs.Common.{◌≡◌, ℕ, not, List, [], ◌∷◌, ◌++◌, length, Option, Some, None, refl, sym, ap, subst, ◌∙◌}
 use Rattle.std.specs.Prelude.{◌==◌}
 use Rattle.std.proofs.lemmas.Bool.{cond_both}
 use Rattle.tardis_base.specs.declared.ids.StateId.{StateId}
