@@ -35,6 +35,8 @@ mod of_trail_log;
 #[cfg(test)]
 mod of_wire_item;
 #[cfg(test)]
+mod of_wire_questions;
+#[cfg(test)]
 mod of_wire_talk;
 #[cfg(test)]
 mod streams;
