@@ -1,15 +1,20 @@
 -- What acts do, one more; and what is told by a reply.
-use Rattle.std.proofs.Common.{◌≡◌, ◌∙◌, ℕ, zero, suc, ◌+◌, ◌<◌, List, [], ◌∷◌, Result, length, take, get_or, refl, ap, sym, subst, arith, add-one, true}
+use Rattle.std.proofs.Common.{◌≡◌, ◌∙◌, ℕ, zero, suc, ◌+◌, ◌<◌, List, [], ◌∷◌, Result, Ok, Err, length, take, get_or, refl, ap, sym, subst, arith, add-one, true}
 use Rattle.std.proofs.Common.{false, is_some, if◌then◌else◌}
 use Rattle.std.proofs.lemmas.Result.{IfOk-weaker}
 use Rattle.tardis_base.specs.declared.requests.Request.{Request}
 use Rattle.tardis_base.specs.declared.replies.Reply.{Reply}
-use Rattle.tardis_base.specs.declared.replies.Reply.TheVariants.{Stat}
+use Rattle.tardis_base.specs.declared.faults.NoMemory.{NoMemory as OutOfMemory}
+use Rattle.plain_site.specs.Site.{Site}
+use Rattle.plain_site.specs.Step.{step}
+use Rattle.session_core.specs.Core.{Core}
+use Rattle.session_core.specs.Gives.{Gives}
+use Rattle.session_core.specs.Machine.{SiteStands}
 use Rattle.load_run.specs.declared.counts.Counts.{Counts}
-use Rattle.load_run.specs.Plays.{Play, Act, counted, asks, asks_then, reply_to, draws, drawn, each_to, each_of}
+use Rattle.load_run.specs.Plays.{Play, Act, counted, asks, asks_then, reply_to, stepped, draws, drawn, each_to, each_of}
 use Rattle.plain_dag.specs.Entries.{entry_of}
 use Rattle.load_run.specs.Scripts.{commits_ser, begins, turn_of}
-use Rattle.load_run.specs.Held.{Held, Plays, Does, Drew}
+use Rattle.load_run.specs.Held.{Held, Plays, Does, Drew, Replied}
 
 pub one_more : (n : ℕ) (act : ℕ → Act) (play : Play) → each_to (n + 1) act play ≡ act (n + 1) (each_to n act play)
 one_more n act play = subst (λ m. each_to m act play ≡ act m (each_to n act play)) (sym (add-one n)) refl
@@ -28,15 +33,13 @@ one_further xs k x act play lt is = subst (λ m. each_of (take m xs) act play �
 pub counted_as : (r s : Reply) (a b : Counts) → r ≡ s → a ≡ b → counted r a ≡ counted s b
 counted_as r s a b e f = ap (λ x. counted x a) e ∙ ap (counted s) f
 
--- the known states that a reply tells
-abbrev pub known_in : Reply → ℕ
-known_in (Stat known kept leaves sessions sites) = known
-known_in _ = 0
-
--- the kept states that it tells
-abbrev pub kept_in : Reply → ℕ
-kept_in (Stat known kept leaves sessions sites) = kept
-kept_in _ = 0
+-- what the site replied
+pub site_replied : (old : Held) (core : Core) (n : ℕ) (q : Request) (r : Result Reply OutOfMemory) →
+    ((site : Site) → SiteStands old.core site → Gives (SiteStands core) (step site n q) site r) → Replied old (record old { core = core }) n q r
+unfolding stepped reply_to
+site_replied old core n q (Ok reply) gives = λ play here.
+    let given = gives play.site here.site in (record { site = given.0; words = here.words; counts = here.counts }, given.1)
+site_replied old core n q (Err fault) gives = tt
 
 -- a question, and what its reply tells
 pub then_told : {A E : Type 0} (old mid new : Held) (r : Result A E) (n : ℕ) (q : Request) (reply : Reply) (next : Reply → Act) →

@@ -93,24 +93,7 @@ impl Player {
         ensures told { IfOk result (λ reply. IsTold reply) }
         ensures counts { self.new.counts ≡ self.old.counts }
     {
-        self.reply_of(actor, &request)
-    }
-
-    /// The same of a request that is lent.
-    fn reply_of(&mut self, actor: u16, request: &Request) -> Result<Reply, NoMemory>
-        requires { IsTrue (is_request request.now) }
-        ensures replied { Replied self.old self.new actor request.now result }
-        ensures told { IfOk result (λ reply. IsTold reply) }
-        ensures counts { self.new.counts ≡ self.old.counts }
-    {
-        let mut reply = Reply::NoMemory;
-        match self.site.step(actor, request, &mut reply) {
-            Ok(()) => Ok(reply),
-            Err(NoMemory) => {
-                drop(reply); // for the proof alone
-                Err(NoMemory)
-            }
-        }
+        self.site.step(actor, &request)
     }
 
     /// Asks the site, as the actor.
@@ -138,18 +121,12 @@ impl Player {
         Ok(())
     }
 
-    /// How many states the site knows, and how many of them it keeps. It isn't counted.
-    pub(crate) fn states(&mut self) -> Result<(u64, u32), NoMemory>
-        ensures known { IfOk result (λ states. (play : Play) → Plays self.old play → states.0 ≡ known play.site) }
-        ensures kept { IfOk result (λ states. (play : Play) → Plays self.old play → states.1 ≡ kept play.site) }
-        ensures counts { self.new.counts ≡ self.old.counts }
+    /// How many states the site knows, and how many of them it keeps.
+    pub(crate) fn states(&self) -> (u64, u32)
+        ensures known { (play : Play) → Plays self.now play → result.0 ≡ known play.site }
+        ensures kept { (play : Play) → Plays self.now play → result.1 ≡ kept play.site }
     {
-        let reply = self.reply_to(0, Request::Stat)?;
-        let states = match reply {
-            Reply::Stat { known, kept, .. } => Ok((known, kept)),
-            _ => Err(NoMemory),
-        };
-        drop(reply); // for the proof alone
-        states
+        let dag = self.site.store().dag();
+        (dag.known(), dag.kept())
     }
 }

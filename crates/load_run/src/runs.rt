@@ -64,6 +64,6 @@ fn played_line(
     ensures { IfOk result (λ line. line.items ≡ load_line start steps) }
 {
     player.play(steps)?;
-    let (known, kept) = player.states()?;
+    let (known, kept) = player.states();
     line_of(alloc, start, steps, &player.counts(), known, kept)
 }

@@ -1,6 +1,6 @@
 -- A merge in one step.
-use Rattle.std.proofs.Common.{◌≡◌, ℕ, true, not, ◌==◌, List, [], ◌∷◌, map, Option, Some, None, Result, Ok, Err, IsTrue, inl, inr, refl, sym, ap, ap₂, subst}
-use Rattle.std.proofs.Common.{◌∙◌, arith}
+use Rattle.std.proofs.Common.{◌≡◌, ℕ, Bool, true, false, not, ◌==◌, List, [], ◌∷◌, map, Option, Some, None, Result, Ok, Err, IsTrue, inl, inr, refl, sym, ap, ap₂, subst}
+use Rattle.std.proofs.Common.{◌∙◌, IfOk, arith}
 use Rattle.std.specs.Prelude.{◌&&◌}
 use Rattle.std.specs.List.{list_all}
 use Rattle.std.proofs.lemmas.Bool.{and_parts, cases_Bool, cond_both, cond-true, eqb-false, not_from_false}
@@ -25,7 +25,7 @@ use Rattle.state_dag.specs.Table.{Table, id_at, is_slot}
 use Rattle.state_dag.proofs.Calls.{named-of_slot}
 use Rattle.plain_site.specs.Site.{Site, Txn, own_floor, own_count, next_record}
 use Rattle.plain_site.specs.Sound.{IsSound, is_sound_session}
-use Rattle.plain_site.specs.Answers.{Answer, refused, refuse, refuse_found, given}
+use Rattle.plain_site.specs.Answers.{Answer, refused, refuse, refuse_found, unless, given}
 use Rattle.plain_site.specs.Commits.{with_record, growth_refusals, committed, commit_below}
 use Rattle.plain_site.proofs.SoundAnswers.{when-none, found-none, none-parts, unless-keeps, no_txn-keeps}
 use Rattle.plain_site.proofs.SoundArrivals.{arrival-keeps}
@@ -35,7 +35,7 @@ use Rattle.plain_site.proofs.SoundEntries.{changed-all, changed-length, changed-
 use Rattle.session_core.specs.Core.{Core}
 use Rattle.session_core.specs.Guards.{RefusesBegins}
 use Rattle.session_core.specs.Gives.{Gives, GivesOrStops, IsGiven, ToldAs}
-use Rattle.session_core.specs.Joins.{begin_refusal, merge_in_one, MayBeMerged}
+use Rattle.session_core.specs.Joins.{begin_refusal, merge_in_one, IsMergeEnd, MayBeMerged}
 use Rattle.session_core.specs.Machine.{SiteStands, opened_with}
 use Rattle.session_core.specs.Stands.{CoreStands, StandsForSite}
 use Rattle.session_core.specs.declared.stops.Stop.{Stop}
@@ -139,6 +139,27 @@ merge-same site n xs ws =
     (committed site n (next_record site xs ws)) (λ none. (refl, refl)))
 
 -- ===== What is told
+
+merge-ends : (site : Site) (n : ℕ) (xs : List StateId) (ws : List KeyWrite) → IsMergeEnd (merge_in_one site n xs ws).1
+merge-ends site n xs ws =
+    go (entry_of n site.sessions) (entry_of n site.txns) (own_count site == 4294967295) (growth_refusal site.limits site.collected site.dag r)
+  where
+    r : Record
+    r = next_record site xs ws
+
+    go : (s : Option Session) (t : Option Txn) (over : Bool) (grown : Option Refusal) → IsMergeEnd (given s (refused site NotOpen) (λ u. given t
+        (unless site (refuse over SeqEnd ∷ refuse_found (λ f. f) grown ∷ []) (committed site n r)) (λ v. refused site TxnOpen))).1
+    go None t over grown = tt
+    go (Some s) (Some t) over grown = tt
+    go (Some s) None true grown = tt
+    go (Some s) None false (Some f) = tt
+    go (Some s) None false None = tt
+
+-- the reply to a merge in one step is one of its two ends
+pub merge-end : (stands : Site → Type 0) (site : Site) (n : ℕ) (xs : List StateId) (ws : List KeyWrite) (reply : Result Reply OutOfMemory) →
+    Gives stands (merge_in_one site n xs ws) site reply → IfOk reply (λ r. IsMergeEnd r)
+merge-end stands site n xs ws (Ok reply) given = subst IsMergeEnd (sym given.1) (merge-ends site n xs ws)
+merge-end stands site n xs ws (Err fault) given = tt
 
 module _ (old new : Core) (n : ℕ) (xs : List StateId) (ws : List KeyWrite) (result : Result Reply Stop)
     (gave : (site : Site) → CoreStands old site → IsSound site → MayBeMerged site xs ws →

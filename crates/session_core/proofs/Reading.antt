@@ -1,5 +1,5 @@
 -- A transaction reads.
-use Rattle.std.proofs.Common.{◌≡◌, ℕ, Bool, true, false, List, [], Option, Some, None, Result, Ok, Err, refl, sym, ap, subst, ◌∙◌}
+use Rattle.std.proofs.Common.{◌≡◌, ℕ, Bool, true, false, List, [], Option, Some, None, is_some, IsTrue, Result, Ok, Err, refl, sym, ap, subst, ◌∙◌}
 use Rattle.std.proofs.lemmas.Option.{same_Some, none-some}
 use Rattle.tardis_base.specs.declared.ids.StateId.{StateId}
 use Rattle.tardis_base.specs.declared.records.Write.{Write}
@@ -110,6 +110,12 @@ module _ (table : Table) (site : Site) (n : ℕ) (k : List ℕ) where
 
 -- ===== What noting gives
 
+-- where there is a transaction something becomes of the read
+pub noted-some : (old new : List (ℕ × Kept)) (n : ℕ) (k : List ℕ) (r : Option (Result (Unit {0}) TxnFault)) → NotedAs old new n k r →
+    IsTrue (is_some (entry_of n old)) → IsTrue (is_some r)
+noted-some old new n k None (missing, same) there = subst (λ (o : Option Kept). IsTrue (is_some o)) missing there
+noted-some old new n k (Some noted) is there = refl
+
 module _ (core : Core) (site : Site) (stands : CoreStands core site) (n : ℕ) (k : List ℕ) (t : OneKept) (at : entry_of n core.txns ≡ Some (KeptSingle t))
     (has : HasTxn core.store.table site n (KeptSingle t)) (none : ◌≡◌ {A = Option Write} (write_of k t.writes) None) (es : List (ℕ × Kept)) where
   same-one : (u : Kept) → entry_of n core.txns ≡ Some u → u ≡ KeptSingle t
@@ -137,10 +143,6 @@ module _ (core : Core) (site : Site) (stands : CoreStands core site) (n : ℕ) (
           Stops (CoreStands (record core { txns = es })) (reading site n k) site (txn_stop (read_fault k t.reads))
       go true f there = rw f (there, single-full core.store.table site n k t has none f)
       go false f there = rw f there
-
-  -- it is there
-  pub note-there : NotedAs core.txns es n k None → ⊥
-  note-there (missing, same) = absurd (none-some (KeptSingle t) (sym missing ∙ at))
 
 -- ===== A read by one look-up
 

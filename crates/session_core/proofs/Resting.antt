@@ -1,11 +1,10 @@
 -- What lasted of an earlier site is taken back.
-use Rattle.std.proofs.Common.{◌≡◌, ℕ, ◌+◌, Bool, true, false, not, ◌==◌, ◌&&◌, ◌||◌, nat_lt, nat_le, List, [], ◌∷◌, ◌++◌, length, find, Option, Some, None}
+use Rattle.std.proofs.Common.{◌≡◌, ◌+◌, Bool, true, false, not, ◌==◌, ◌&&◌, nat_lt, nat_le, List, [], ◌∷◌, length, find, Option, Some, None}
 use Rattle.std.proofs.Common.{is_none, Result, Ok, Err, IsTrue, IsFalse, refl, sym, ap, ap₂, subst, ◌∙◌}
 use Rattle.std.specs.Prelude.{if◌then◌else◌, IfOk}
 use Rattle.std.specs.List.{list_all}
 use Rattle.std.proofs.lemmas.Bool.{and_parts, not-false, eqb-true, ltb-false}
 use Rattle.std.proofs.lemmas.List.Folds.{list_all-append}
-use Rattle.std.proofs.lemmas.Option.{none-some}
 use Rattle.tardis_base.specs.declared.faults.NoMemory.{NoMemory as OutOfMemory}
 use Rattle.tardis_base.specs.declared.ids.StateId.{StateId}
 use Rattle.tardis_base.specs.declared.records.Record.{Record}
@@ -36,7 +35,7 @@ use Rattle.plain_site.specs.Site.{Site}
 use Rattle.plain_site.specs.Sound.{IsSound}
 use Rattle.plain_site.specs.Answers.{when, refuse, refuse_found, unless}
 use Rattle.plain_site.specs.Commits.{with_record, growth_refusals}
-use Rattle.plain_site.specs.Exchange.{is_early, judgements, consent_judgements}
+use Rattle.plain_site.specs.Exchange.{is_early, judgements}
 use Rattle.plain_site.specs.Rest.{Lasting, News, Collection, nameless, with_lasting, fits}
 use Rattle.plain_site.proofs.SoundAnswers.{AreNone, when-none, found-none, none-parts}
 use Rattle.plain_site.proofs.SoundArrivals.{arrival-keeps}

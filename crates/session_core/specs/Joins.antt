@@ -6,6 +6,7 @@ use Rattle.tardis_base.specs.declared.ids.Slot.{Slot}
 use Rattle.tardis_base.specs.declared.replies.Refusal.{Refusal}
 use Rattle.tardis_base.specs.declared.replies.Refusal.TheVariants.{NotOpen, TxnOpen}
 use Rattle.tardis_base.specs.declared.replies.Reply.{Reply}
+use Rattle.tardis_base.specs.declared.replies.Reply.TheVariants.{Committed, Refused}
 use Rattle.tardis_base.specs.Ids.{is_among}
 use Rattle.tardis_base.specs.Keys.{KeyWrite}
 use Rattle.tardis_base.specs.Valid.{are_parents, are_writes}
@@ -32,6 +33,12 @@ begin_refusal site n = elim (entry_of n site.sessions) [ None ↦ Some NotOpen |
 -- the session commits a merge of these states with these writes, though it began none
 abbrev pub merge_in_one : Site → ℕ → List StateId → List KeyWrite → Answer
 merge_in_one site n xs ws = without_txn site n (λ s. commit_below site n xs ws [])
+
+-- the reply tells how such a merge ended: it committed, or was refused
+abbrev pub IsMergeEnd : Reply → Type 0
+IsMergeEnd (Committed x parents) = Unit {0}
+IsMergeEnd (Refused refusal) = Unit {0}
+IsMergeEnd _ = ⊥
 
 -- a merge of these states may commit with these writes: the states are such as a merge begins at, the writes such as a
 -- transaction has, and each conflict key of the states is written

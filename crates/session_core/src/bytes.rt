@@ -312,7 +312,7 @@ impl SiteCore {
     {
         match request {
             Request::Deliver { item } => self.deliver(item),
-            request => self.answer(actor, &request),
+            request => self.step(actor, &request),
         }
     }
 }

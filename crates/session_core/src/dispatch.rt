@@ -1,13 +1,13 @@
 //! The step of a site: a request, and the reply to it.
 
-ghost use Rattle.std.specs.Prelude.{◌≡◌, IsTrue, IsOk, IfOk, OnOk, OnErr};
+ghost use Rattle.std.specs.Prelude.{◌≡◌, IsTrue, IsOk, IfOk};
 ghost use Rattle.tardis_base.specs.declared.requests.Request.{Request};
 ghost use Rattle.wire_item.specs.Valid.{is_item};
 ghost use Rattle.wire_talk.specs.Valid.{is_request};
 ghost use Rattle.plain_site.specs.Site.{Site};
 ghost use Rattle.plain_site.specs.Step.{step, is_sure};
 ghost use Rattle.plain_site.specs.Exchange.{deliver};
-ghost use Rattle.session_core.specs.Gives.{Answers, Gives, IsGiven, NeedsNoMemory, ToldAs};
+ghost use Rattle.session_core.specs.Gives.{Answers, Gives, NeedsNoMemory, ToldAs};
 ghost use Rattle.session_core.specs.Stands.{StandsForSite};
 ghost use Rattle.session_core.specs.Commits.{commit_reply};
 ghost use Rattle.session_core.specs.Machine.{SiteStands, IsTold, opened_with};
@@ -115,17 +115,6 @@ pub(crate) fn told(outcome: Result<Reply, Stop>) -> Result<Reply, NoMemory>
 }
 
 impl SiteCore {
-    /// The reply to the actor's request, which is done.
-    pub(crate) fn answer(&mut self, actor: u16, request: &Request) -> Result<Reply, NoMemory>
-        requires { IsTrue (is_request request.now) }
-        ensures given { (site : Site) → SiteStands self.old site → Gives (SiteStands self.new) (step site actor request.now) site result }
-        ensures told { IfOk result (λ reply. IsTold reply) }
-        ensures sure { IsTrue (is_sure request.now) → IsOk result }
-        ensures opening { opened_with self.new ≡ opened_with self.old }
-    {
-        told(self.parts.serve(actor, request))
-    }
-
     /// The reply to the delivery of the item, which is done. A record is moved in.
     pub(crate) fn deliver(&mut self, item: Item) -> Result<Reply, NoMemory>
         requires { IsTrue (is_item item) }
@@ -145,20 +134,13 @@ impl SiteCore {
     /// and the adding of the record; of a merge's fork points, conflict keys and Commit what its branches have done since they
     /// parted, as `branch_region::region` says; of the leaves, the states, a Show and a Pull what they list or try. A Settle judges
     /// the waiting records up to the first fit one. One table of costs is in `docs/SPEED.md`.
-    pub fn step(&mut self, actor: u16, request: &Request, reply: &mut Reply) -> Result<(), NoMemory>
+    pub fn step(&mut self, actor: u16, request: &Request) -> Result<Reply, NoMemory>
         requires { IsTrue (is_request request.now) }
-        ensures done { OnOk result ((site : Site) → SiteStands self.old site → IsGiven (SiteStands self.new) (step site actor request.now) reply.new) }
-        ensures same { OnErr result ((site : Site) → SiteStands self.old site → SiteStands self.new site) }
-        ensures told { OnOk result (IsTold reply.new) }
-        ensures untold { OnErr result (reply.new ≡ Reply.NoMemory) }
+        ensures given { (site : Site) → SiteStands self.old site → Gives (SiteStands self.new) (step site actor request.now) site result }
+        ensures told { IfOk result (λ reply. IsTold reply) }
         ensures sure { IsTrue (is_sure request.now) → IsOk result }
         ensures opening { opened_with self.new ≡ opened_with self.old }
     {
-        let (answer, end) = match self.answer(actor, request) {
-            Ok(answer) => (answer, Ok(())),
-            Err(NoMemory) => (Reply::NoMemory, Err(NoMemory)),
-        };
-        *reply = answer;
-        end
+        told(self.parts.serve(actor, request))
     }
 }

@@ -1,6 +1,6 @@
 //! What a layer above asks of a site beside requests: whether a session may begin, and a merge in one step.
 
-ghost use Rattle.std.specs.Prelude.{◌≡◌, None, List, Some, map, IsTrue};
+ghost use Rattle.std.specs.Prelude.{◌≡◌, None, List, Some, map, IsTrue, IfOk};
 ghost use Rattle.std.specs.List.{list_all};
 ghost use Rattle.tardis_base.specs.declared.ids.StateId.{StateId};
 ghost use Rattle.plain_dag.specs.Entries.{entry_of};
@@ -8,7 +8,7 @@ ghost use Rattle.state_dag.specs.Table.{id_at, is_slot};
 ghost use Rattle.ceiling_book.specs.Book.{is_open};
 ghost use Rattle.plain_site.specs.Site.{Site};
 ghost use Rattle.session_core.specs.Gives.{Gives};
-ghost use Rattle.session_core.specs.Joins.{begin_refusal, merge_in_one, MayBeMerged, WritesBelow, MergesBelow};
+ghost use Rattle.session_core.specs.Joins.{begin_refusal, merge_in_one, IsMergeEnd, MayBeMerged, WritesBelow, MergesBelow};
 ghost use Rattle.session_core.specs.Machine.{SiteStands, opened_with};
 
 use crate::dispatch::told;
@@ -87,6 +87,7 @@ impl SiteCore {
         ensures given { (site : Site) → SiteStands self.old site → (xs : List StateId)
             → map (id_at self.old.store.table) below.now ≡ map (λ x. Some x) xs
             → Gives (SiteStands self.new) (merge_in_one site actor xs writes) site result }
+        ensures end { IfOk result (λ reply. IsMergeEnd reply) }
         ensures opening { opened_with self.new ≡ opened_with self.old }
     {
         told(self.parts.commit_merge(actor, below, writes))

@@ -1,11 +1,12 @@
 //! Transactions read and write.
 
-ghost use Rattle.std.specs.Prelude.{◌≡◌, None, Some, IsTrue, IfOk};
+ghost use Rattle.std.specs.Prelude.{◌≡◌, None, Some, is_some, IsTrue, IfOk};
 ghost use Rattle.std.specs.List.{list_all};
 ghost use Rattle.tardis_base.specs.Ids.{root};
 ghost use Rattle.tardis_base.specs.Keys.{write_of};
 ghost use Rattle.state_dag.specs.Table.{is_slot};
 ghost use Rattle.version_list.specs.Reads.{found};
+ghost use Rattle.plain_dag.specs.Entries.{entry_of};
 ghost use Rattle.plain_site.specs.Site.{Site};
 ghost use Rattle.plain_site.specs.Answers.{with_txn, found as reply_to};
 ghost use Rattle.plain_site.specs.Reads.{get, set_key, get_for as got_for};
@@ -51,7 +52,8 @@ impl Parts {
     /// Reads the key at this slot, that of the actor's transaction, a single one that hasn't written to the key, and notes
     /// the read. The value is a copy.
     fn get_at(&mut self, actor: u16, slot: Slot, key: &Key) -> Result<Reply, Stop>
-        requires { IsTrue (is_slot self.old.store.table slot) }
+        requires slot { IsTrue (is_slot self.old.store.table slot) }
+        requires open { IsTrue (is_some (entry_of actor self.old.txns)) }
         ensures { ReadsAt self.old self.new actor slot key.now result }
     {
         let reply = reply_of(self.store.read_at(slot, key))?;
@@ -61,6 +63,7 @@ impl Parts {
 
     /// Notes a copy of the key, which the actor's transaction, a single one that hasn't written to it, reads.
     fn note_copy(&mut self, actor: u16, key: &Key) -> Result<(), Stop>
+        requires { IsTrue (is_some (entry_of actor self.old.txns)) }
         ensures { NotesRead self.old self.new actor key.now result }
     {
         self.note_read(actor, key.copy()?)
@@ -68,12 +71,13 @@ impl Parts {
 
     /// Notes that the actor's transaction, a single one that hasn't written to the key, reads it.
     fn note_read(&mut self, actor: u16, key: Key) -> Result<(), Stop>
+        requires { IsTrue (is_some (entry_of actor self.old.txns)) }
         ensures { NotesRead self.old self.new actor key result }
     {
-        match self.txns.note_read(actor, key) {
-            Some(Ok(())) => Ok(()),
-            Some(Err(fault)) => Err(Stop::from(fault)),
-            None => Err(Stop::Refused(Refusal::NoTxn)),
+        let noted = self.txns.note_read(actor, key).unwrap();
+        match noted {
+            Ok(()) => Ok(()),
+            Err(fault) => Err(Stop::from(fault)),
         }
     }
 

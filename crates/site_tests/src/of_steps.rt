@@ -32,9 +32,7 @@ fn reply_to(rt: &impl Abort, site: &mut SiteCore, actor: u16, request: &Request)
     requires { IsTrue (is_request request.now) }
     ensures { IsTold result }
 {
-    let mut reply = Reply::NoMemory;
-    site.step(actor, request, &mut reply).expect(rt, "room");
-    reply
+    site.step(actor, request).expect(rt, "room")
 }
 
 /// Puts the reply into `out`, in place of what was there.

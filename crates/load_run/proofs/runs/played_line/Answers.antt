@@ -11,6 +11,6 @@ returns c =
     let play = played c.args.start c.args.steps in
     let there : Plays c.play.new.self play = c.in_ok-play.ensures (opening_play c.args.start) c.requires.opens in
     let told : Counts → ℕ → ℕ → Type 0 = λ n x y. IfOk c.line_of.result (λ line. line.items ≡ line_of c.args.start c.args.steps n x y) in
-    subst (λ n. told n (known play.site) (kept play.site)) (c.counts.ensures ∙ (c.in_ok-known.ensures.counts ∙ there.counts))
-    (subst (λ x. told c.counts.result x (kept play.site)) (c.in_ok-known.ensures.known play there)
-    (subst (λ y. told c.counts.result c.in_ok-known.known y) (c.in_ok-known.ensures.kept play there) c.line_of.ensures))
+    subst (λ n. told n (known play.site) (kept play.site)) (c.counts.ensures ∙ there.counts)
+    (subst (λ x. told c.counts.result x (kept play.site)) (c.states-known.ensures.known play there)
+    (subst (λ y. told c.counts.result c.states-known.result.0 y) (c.states-known.ensures.kept play there) c.line_of.ensures))

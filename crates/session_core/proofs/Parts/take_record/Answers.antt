@@ -1,4 +1,4 @@
-use Rattle.std.proofs.Common.{◌≡◌, ◌∙◌, IsTrue, sym}
+use Rattle.std.proofs.Common.{◌∙◌, IsTrue, sym}
 use Rattle.std.specs.Prelude.{is_none}
 use Rattle.site_exchange.specs.Judgements.{first_reply}
 use Rattle.plain_site.specs.Exchange.{judgements}

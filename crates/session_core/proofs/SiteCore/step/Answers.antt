@@ -4,7 +4,7 @@ use Rattle.plain_site.specs.Step.{step}
 use Rattle.session_core.specs.Gives.{Gives}
 use Rattle.session_core.specs.Machine.{SiteStands, opened_with}
 use Rattle.session_core.proofs.Telling.{small, told-sound, still-stands, told-told, told-sure, gave-opening}
-use Rattle.session_core.proofs.SiteCore.answer.Goals as goal
+use Rattle.session_core.proofs.SiteCore.step.Goals as goal
 
 pub invariant_of-self : goal.invariant_of-self
 invariant_of-self c =
