@@ -6,3 +6,5 @@ pub mod Files
 pub mod Stood
 pub mod Replays
 pub mod Reads
+pub mod News
+pub mod Opens

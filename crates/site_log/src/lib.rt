@@ -7,6 +7,8 @@ mod bodies;
 mod ends;
 mod files;
 mod logged;
+mod makes;
+mod opens;
 mod reads;
 mod replays;
 mod resumes;
@@ -14,6 +16,7 @@ mod texts;
 
 pub use ends::OpenEnd;
 pub use logged::Logged;
+pub use opens::{FoundLog, NotOpened, OpenedLog, open_log};
 pub use reads::read_log;
 pub use replays::Found;
 pub use resumes::{LogEnd, resume};
