@@ -1,5 +1,5 @@
 -- What a disk leaves while a log is opened on it.
-use Rattle.std.proofs.Common.{◌≡◌, ◌⊎◌, inl, inr, ⊎_elim, ℕ, ◌≤◌, List, refl, sym, ◌∙◌, subst, arith}
+use Rattle.std.proofs.Common.{◌≡◌, ◌⊎◌, inl, inr, ⊎_elim, ℕ, ◌≤◌, List, Result, Ok, Err, IfOk, IfErr, refl, sym, ◌∙◌, subst, arith}
 use Rattle.disk_store.specs.Disks.{Bytewise, Follows, NoMore, Only, Elapses, LeavesOnly}
 use Rattle.disk_store.specs.declared.disks.Disk.{Ghosts as ADisk}
 use Rattle.site_log.specs.Opens.{WasRead}
@@ -82,3 +82,16 @@ module _ {K : Type 0} (k : ADisk K) (old : K) (P : List ℕ → Type 0) (place :
       → Elapses (k.moment mid) (k.moment new) (k.left_since mid) (k.left_since new) (k.may_leave new) → LeavesOnly k.moment k.left_since old new P
   sync_leaves mid new follows time crashes later =
       goes_on k old mid new P (write_leaves mid follows time) later (λ image left. torn_images mid follows image (crashes image left))
+
+-- a fact of a value by another
+pub if_ok : {T E : Type 0} (r : Result T E) (P Q : T → Type 0) → IfOk r P → ((x : T) → P x → Q x) → IfOk r Q
+if_ok (Ok x) P Q p f = f x p
+if_ok (Err e) P Q p f = p
+
+pub if_err : {T E : Type 0} (r : Result T E) (P Q : E → Type 0) → IfErr r P → ((x : E) → P x → Q x) → IfErr r Q
+if_err (Ok x) P Q p f = p
+if_err (Err e) P Q p f = f e p
+
+pub if_err_both : {T E : Type 0} (r : Result T E) (P Q R : E → Type 0) → IfErr r P → IfErr r Q → ((x : E) → P x → Q x → R x) → IfErr r R
+if_err_both (Ok x) P Q R p q f = p
+if_err_both (Err e) P Q R p q f = f e p q

@@ -8,3 +8,5 @@ pub mod Replaying
 pub mod Wanting
 mod Making
 mod Leaving
+mod Mending
+mod Readying

@@ -1,15 +1,16 @@
 -- What a crash leaves of a new file while it is made.
-use Rattle.std.proofs.Common.{◌≡◌, ◌⊎◌, inl, inr, ⊎_elim, ℕ, ◌+◌, ◌*◌, ◌-◌, ◌<◌, ◌≤◌, Bool, true, false, if◌then◌else◌, nat_eq, List, [], ◌∷◌, ◌++◌, length, take, drop, get_or, replicate, refl, sym, ap, ◌∙◌, subst, arith}
+use Rattle.std.proofs.Common.{◌≡◌, ◌⊎◌, inl, inr, ⊎_elim, ℕ, ◌+◌, ◌*◌, ◌-◌, ◌<◌, ◌≤◌, Bool, true, false, if◌then◌else◌, nat_eq, List, [], ◌∷◌, ◌++◌, length, take, drop, get_or, replicate, max, refl, sym, ap, ◌∙◌, subst, arith}
 use Rattle.std.proofs.Common.{length-append, length-drop, length-take, length-take-le, get_or-drop, get_or-append-add, get_or-take, append-nil}
-use Rattle.std.proofs.lemmas.List.{length-replicate, get_or-replicate, get_or_append_left}
-use Rattle.disk_store.specs.Disks.{with_bytes, Bytewise}
+use Rattle.std.proofs.lemmas.List.{get_or-replicate, get_or_append_left, take_all}
+use Rattle.disk_store.specs.Disks.{with_bytes, Bytewise, Only}
+use Rattle.disk_store.specs.declared.disks.Disk.{Ghosts as ADisk}
 use Rattle.log_text.specs.Texts.{is_mark, spelled, coded, entry, HasNoEntry, IsZeros, Mixed, Reads}
 use Rattle.log_text.specs.Laws.{EveryReading, MendKeepsItems, AllOrNone}
 use Rattle.log_groups.specs.declared.fronts.LogFront.{LogFront}
 use Rattle.log_groups.specs.Items.{check, log_name, IsFront, front_text, front_item}
 use Rattle.log_groups.specs.Laws.{WrittenIsHeld}
 use Rattle.site_log.specs.Images.{HoldsBodies}
-use Rattle.site_log.specs.Files.{text_of}
+use Rattle.site_log.specs.Files.{text_of, IsAtRest}
 use Rattle.site_log.specs.News.{first_room, longest_front, IsFrontInPart, IsNew}
 use Rattle.site_log.proofs.Mixing.{mixed_at, zeros_at, zero_of, zeros_more, zeros_behind, is_mixed}
 use Rattle.site_log.proofs.Appending.{held}
@@ -186,3 +187,60 @@ module _ (every : EveryReading) (group : AllOrNone) (written : WrittenIsHeld) (f
       let r = every image in
       one_of r.0 r.1.0 r.1.1
       (group [] r.0 (front_item front) zs (drop (length text) zs) image r.1.0 tt clean (zeros_behind (length text) zs clean) named r.1.1)
+
+-- how long it is then
+pub cleared_size : (old zeros : List ℕ) → length zeros ≡ 4096 → length (with_bytes old 0 zeros) ≡ max (length old) first_room
+cleared_size old zeros many =
+    omega (
+      arith,
+      length-append zeros (drop (0 + length zeros) old),
+      length-drop (0 + length zeros) old,
+      many,
+    )
+
+-- the front is there
+pub front_rests : {K : Type 0} (k : ADisk K) (old mid now : K) (front : LogFront) → IsFront front → (text : List ℕ) → text ≡ text_of front []
+    → IsZeros (k.reads old) → first_room ≤ length (k.reads old) → k.reads mid ≡ with_bytes (k.reads old) 0 text → k.reads now ≡ k.reads mid
+    → Only (k.reads mid) (k.may_leave now) → IsAtRest k now front [] (length text) (length (k.reads old))
+front_rests k old mid now front is_front text is clean room wrote same only =
+    let rest = drop (0 + length text) (k.reads old) in
+    let reads : k.reads now ≡ text ++ rest = same ∙ wrote in
+    let short : length text ≤ longest_front = omega (arith, ap length is, text_short front is_front) in
+    record {
+      zeros = rest;
+      text = reads ∙ ap (λ z. z ++ rest) is;
+      clean = zeros_behind (0 + length text) (k.reads old) clean;
+      is_front = is_front;
+      each = tt;
+      durable = subst (λ z. Only z (k.may_leave now)) (sym same) only;
+      at = ap length is;
+      long = omega (
+        arith,
+        ap length reads,
+        length-append text rest,
+        length-drop (0 + length text) (k.reads old),
+        short,
+        room,
+      );
+    }
+
+-- ===== The name, byte by byte
+
+less_or_same : (n i : ℕ) → n < i + 1 → (n < i) ⊎ (n ≡ i)
+less_or_same ℕ.zero ℕ.zero less = inr refl
+less_or_same ℕ.zero (ℕ.suc i) less = inl (omega arith)
+less_or_same (ℕ.suc n) ℕ.zero less = absurd (omega (arith, less))
+less_or_same (ℕ.suc n) (ℕ.suc i) less =
+    ⊎_elim (λ l. inl (omega (arith, l))) (λ e. inr (ap ℕ.suc e)) (less_or_same n i (omega (arith, less)))
+
+pub letters_more : (bytes : List ℕ) (i : ℕ) → ((n : ℕ) → n < i → IsLetter bytes n) → IsLetter bytes i → (n : ℕ) → n < i + 1 → IsLetter bytes n
+letters_more bytes i so_far one n less =
+    ⊎_elim (so_far n) (λ same. subst (IsLetter bytes) (sym same) one) (less_or_same n i less)
+
+pub name_of_letters : (bytes : List ℕ) → length bytes ≡ 8 → ((n : ℕ) → n < 8 → IsLetter bytes n) → Mixed (replicate 8 0) log_name bytes
+name_of_letters bytes long each =
+    subst (Mixed (replicate 8 0) log_name) (take_all 8 bytes (omega (arith, long))) (name_part bytes (omega (arith, long)) each)
+
+pub letter_of_name : (bytes : List ℕ) → length bytes ≡ 8 → Mixed (replicate 8 0) log_name bytes → (i : ℕ) → i < 8 → IsLetter bytes i
+letter_of_name bytes long m i small =
+    letter_of bytes (subst (Mixed (replicate 8 0) log_name) (sym (take_all 8 bytes (omega (arith, long)))) m) i small

@@ -1,5 +1,5 @@
 -- From a front that was read to the log behind it.
-use Rattle.std.proofs.Common.{◌≡◌, inl, inr, ℕ, ◌≤◌, List, [], ◌∷◌, ◌++◌, length, drop, Result, Ok, Err, IfOk, IfErr, refl, sym, ap, ◌∙◌, subst, arith, length-append, length-drop, append-nil}
+use Rattle.std.proofs.Common.{◌≡◌, inl, inr, ℕ, ◌≤◌, List, [], ◌++◌, length, drop, Result, Ok, Err, IfOk, IfErr, sym, ap, ◌∙◌, subst, arith, length-append, length-drop, append-nil}
 use Rattle.rest_machine.specs.declared.resting.Resting.{Ghosts as AResting}
 use Rattle.log_text.specs.Texts.{entry}
 use Rattle.log_groups.specs.declared.fronts.LogFront.{LogFront}
