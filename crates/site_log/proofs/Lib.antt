@@ -6,3 +6,7 @@ pub mod Marks
 pub mod Standing
 pub mod Replaying
 pub mod Wanting
+mod Making
+mod Leaving
+mod Mending
+mod Readying

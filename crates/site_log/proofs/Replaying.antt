@@ -1,6 +1,6 @@
 -- How a log's groups are taken back, one after another.
-use Rattle.std.proofs.Common.{◌≡◌, ℕ, Bool, ◌+◌, ◌-◌, ◌≤◌, List, [], ◌∷◌, ◌++◌, length, drop, take, refl, sym, ap, ◌∙◌, subst, arith, length-append, length-drop, append_assoc}
-use Rattle.std.proofs.lemmas.List.{take_rest, take_all, drop-drop}
+use Rattle.std.proofs.Common.{◌≡◌, ℕ, Bool, ◌+◌, ◌≤◌, List, [], ◌∷◌, ◌++◌, length, drop, refl, sym, ap, ◌∙◌, subst, arith, length-append, length-drop, append_assoc}
+use Rattle.std.proofs.lemmas.List.{drop-drop}
 use Rattle.std.specs.List.{AllByRecursion}
 use Rattle.rest_machine.specs.declared.resting.Resting.{Ghosts as AResting}
 use Rattle.log_text.specs.Texts.{entry, coded}

@@ -1,5 +1,5 @@
 -- From a front that was read to the log behind it.
-use Rattle.std.proofs.Common.{◌≡◌, inl, inr, ℕ, ◌≤◌, List, [], ◌∷◌, ◌++◌, length, drop, Result, Ok, Err, IfOk, IfErr, refl, sym, ap, ◌∙◌, subst, arith, length-append, length-drop, append-nil}
+use Rattle.std.proofs.Common.{◌≡◌, inl, inr, ℕ, ◌≤◌, List, [], ◌++◌, length, drop, Result, Ok, Err, IfOk, IfErr, sym, ap, ◌∙◌, subst, arith, length-append, length-drop, append-nil}
 use Rattle.rest_machine.specs.declared.resting.Resting.{Ghosts as AResting}
 use Rattle.log_text.specs.Texts.{entry}
 use Rattle.log_groups.specs.declared.fronts.LogFront.{LogFront}
@@ -7,7 +7,7 @@ use Rattle.log_groups.specs.declared.readers.FirstItem.TheVariants.{Front, NotAL
 use Rattle.log_groups.specs.Items.{IsFront, front_item}
 use Rattle.log_groups.specs.Steps.{IsFirst}
 use Rattle.site_log.specs.declared.ends.OpenEnd.{OpenEnd}
-use Rattle.site_log.specs.declared.ends.OpenEnd.TheVariants.{NotALog, OtherVersion, BadFront, OtherSite, OtherLimits, Damaged, Unfit, NoMemory}
+use Rattle.site_log.specs.declared.ends.OpenEnd.TheVariants.{NotALog, OtherVersion, BadFront, OtherSite, OtherLimits, Damaged, Unfit, NoMemory, Disk}
 use Rattle.site_log.specs.declared.replays.Found.{Found}
 use Rattle.site_log.specs.Files.{text_of}
 use Rattle.site_log.specs.Replays.{GroupsEnd}
@@ -52,6 +52,7 @@ module _ {M : Type 0} (m : AResting M) (old : M) (bytes : List ℕ) (front wante
   groups_end is BadFront e = absurd (e)
   groups_end is (OtherSite other) e = absurd (e)
   groups_end is (OtherLimits other) e = absurd (e)
+  groups_end is Disk e = absurd (e)
 
   pub groups_result : IsWanted front wanted → (r : Result Found OpenEnd) → IfErr r (λ end. GroupsEnd m old bytes front end)
       → IfErr r (λ end. WantedEnd m old bytes front wanted end)
@@ -68,6 +69,7 @@ module _ {M : Type 0} (m : AResting M) (old : M) (bytes : List ℕ) (front wante
   other_end NotALog e = absurd (e)
   other_end (OtherVersion version) e = absurd (e)
   other_end BadFront e = absurd (e)
+  other_end Disk e = absurd (e)
 
   -- what it says of the bytes
   pub refuses : HasFront bytes front → (end : OpenEnd) → WantedEnd m old bytes front wanted end → Refuses m old bytes wanted end
@@ -83,6 +85,7 @@ module _ {M : Type 0} (m : AResting M) (old : M) (bytes : List ℕ) (front wante
   refuses has NotALog e = absurd (e)
   refuses has (OtherVersion version) e = absurd (e)
   refuses has BadFront e = absurd (e)
+  refuses has Disk e = absurd (e)
 
   pub refuses_result : HasFront bytes front → (r : Result Found OpenEnd) → IfErr r (λ end. WantedEnd m old bytes front wanted end)
       → IfErr r (λ end. Refuses m old bytes wanted end)

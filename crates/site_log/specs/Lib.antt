@@ -6,3 +6,7 @@ pub mod Files
 pub mod Stood
 pub mod Replays
 pub mod Reads
+pub mod Resumes
+pub mod News
+pub mod Opens
+pub mod Readies

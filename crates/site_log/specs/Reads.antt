@@ -6,7 +6,7 @@ use Rattle.log_groups.specs.declared.readers.FirstItem.TheVariants.{NotALog as F
 use Rattle.log_groups.specs.Items.{IsFront}
 use Rattle.log_groups.specs.Steps.{IsFirst}
 use Rattle.site_log.specs.declared.ends.OpenEnd.{OpenEnd}
-use Rattle.site_log.specs.declared.ends.OpenEnd.TheVariants.{NotALog, OtherVersion, BadFront, OtherSite, OtherLimits, Damaged, Unfit, NoMemory}
+use Rattle.site_log.specs.declared.ends.OpenEnd.TheVariants.{NotALog, OtherVersion, BadFront, OtherSite, OtherLimits, Damaged, Unfit, NoMemory, Disk}
 use Rattle.site_log.specs.Files.{text_of}
 use Rattle.site_log.specs.Replays.{IsDamaged, IsUnfit}
 
@@ -53,3 +53,4 @@ module _ {M : Type 0} (m : AResting M) where
   Refuses old bytes wanted (Damaged place) = (front : LogFront) × (HasFront bytes front × IsWanted front wanted × IsDamaged m old bytes front place)
   Refuses old bytes wanted (Unfit place) = (front : LogFront) × (HasFront bytes front × IsWanted front wanted × IsUnfit m old bytes front place)
   Refuses old bytes wanted NoMemory = Unit {0}
+  Refuses old bytes wanted Disk = ⊥

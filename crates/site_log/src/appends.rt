@@ -98,7 +98,7 @@ fn grow<K: BytewiseDisk>(disk: &mut K, room: u64, wanted: u64) -> Result<u64, Fa
 }
 
 /// Writes some zeros at a place, without a sync.
-fn write_zeros<K: BytewiseDisk>(disk: &mut K, place: u64) -> Result<(), Failed>
+pub(crate) fn write_zeros<K: BytewiseDisk>(disk: &mut K, place: u64) -> Result<(), Failed>
     requires begin { K.honest disk.old → place ≤ length (K.reads disk.old) }
     requires end { place + 4096 ≤ longest_disk }
     ensures written { K.honest disk.old → (zeros : List ℕ) × (IsZeros zeros × (length zeros ≡ 4096)

@@ -5,7 +5,8 @@ use log_groups::LogFront;
 /// Why a log isn't opened.
 #[derive(Clone, Copy)]
 pub enum OpenEnd {
-    /// The file doesn't begin with an item of a log. So an empty file, and one of zeros alone, is none either.
+    /// The file doesn't begin with an item of a log. To `read_log` an empty file, and one of zeros alone, is none either; to
+    /// `open_log` these are new files.
     NotALog,
     /// It is a log of another version of the format.
     OtherVersion(u16),
@@ -21,4 +22,6 @@ pub enum OpenEnd {
     Unfit(u64),
     /// There is too little memory.
     NoMemory,
+    /// A call of the disk failed.
+    Disk,
 }

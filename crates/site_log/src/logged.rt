@@ -131,6 +131,13 @@ impl<M: Resting, K: BytewiseDisk> Logged<M, K> {
         put
     }
 
+    /// The machine.
+    pub fn machine(&self) -> &M
+        ensures { result.now ≡ self.now.machine }
+    {
+        &self.machine
+    }
+
     /// The disk. What waits isn't put there.
     pub fn close(self) -> K
         ensures { result ≡ self.file.disk }

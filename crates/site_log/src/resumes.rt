@@ -4,6 +4,7 @@ ghost use Rattle.std.specs.Prelude.{◌≡◌, [], ◌∷◌, ℕ, List, length,
 ghost use Rattle.site_log.specs.Kept.{starts};
 ghost use Rattle.site_log.specs.Images.{Mark};
 ghost use Rattle.site_log.specs.Files.{IsAtRest};
+ghost use Rattle.site_log.specs.Resumes.{file_at};
 ghost use Rattle.site_log.specs.Stood.{Stands};
 
 use crate::bodies::Body;
@@ -14,6 +15,7 @@ use disk_store::{BytewiseDisk, Disk};
 use log_groups::{LogFront, group_laws};
 use rest_machine::Resting;
 use std::alloc::Global;
+use tardis_base::NoMemory;
 
 /// What a log says first, and where it ends: the number and the place of the next group, and how many bytes the file has.
 #[derive(Clone, Copy)]
@@ -22,6 +24,23 @@ pub struct LogEnd {
     pub number: u64,
     pub place: u64,
     pub room: u64,
+}
+
+/// All memory that a log that goes on ever needs.
+#[derive(Drop)]
+pub(crate) struct Rooms {
+    waiting: Body,
+    text: EntryText,
+}
+
+impl Rooms {
+    pub(crate) fn new(alloc: Global) -> Result<Rooms, NoMemory>
+        ensures { IfOk result (λ rooms. rooms.waiting ≡ []) }
+    {
+        let waiting = Body::new(alloc)?;
+        let text = EntryText::new(alloc)?;
+        Ok(Rooms { waiting, text })
+    }
 }
 
 /// Goes on with the log on a disk, behind its groups, with a machine that took their bodies back. The file has zeros behind the
@@ -37,22 +56,37 @@ pub fn resume<M: Resting, K: BytewiseDisk>(
     ensures stands { IfOk result (λ l. (s : M.Plain) (bodies : List (List ℕ)) → M.stands machine s → end.number ≡ length bodies
         → (K.honest disk → IsAtRest K.Disk disk end.front bodies end.place end.room)
         → Stands M.Resting K.Disk l (starts s bodies) (record { moment = K.moment disk; count = length bodies } ∷ [])) }
-    ensures disk { IfOk result (λ l. l.file.disk ≡ disk) }
+    ensures file { IfOk result (λ l. l.file ≡ file_at disk end) }
     ensures handed_back { IfErr result (λ back. back ≡ disk) }
     ensures opening { IfOk result (λ l. M.opening l.machine ≡ M.opening machine) }
 {
+    match Rooms::new(alloc) {
+        Ok(rooms) => Ok(go_on(machine, disk, end, rooms)),
+        Err(NoMemory) => Err(disk),
+    }
+}
+
+/// Goes on with a log, in room that was taken before.
+pub(crate) fn go_on<M: Resting, K: BytewiseDisk>(
+    machine: M,
+    disk: K,
+    end: LogEnd,
+    rooms: Rooms,
+) -> Logged<M, K>
+    requires size { K.honest disk → end.room ≡ length (K.reads disk) }
+    requires none { rooms.waiting ≡ [] }
+    ensures stands { (s : M.Plain) (bodies : List (List ℕ)) → M.stands machine s → end.number ≡ length bodies
+        → (K.honest disk → IsAtRest K.Disk disk end.front bodies end.place end.room)
+        → Stands M.Resting K.Disk result (starts s bodies) (record { moment = K.moment disk; count = length bodies } ∷ []) }
+    ensures file { result.file ≡ file_at disk end }
+    ensures opening { M.opening result.machine ≡ M.opening machine }
+{
     group_laws(); // for the proof alone
-    let Ok(waiting) = Body::new(alloc) else {
-        return Err(disk);
-    };
-    let Ok(text) = EntryText::new(alloc) else {
-        return Err(disk);
-    };
-    Ok(Logged {
+    Logged {
         machine,
         file: LogFile::new(disk, end.front, end.number, end.place, end.room),
-        waiting,
-        text,
+        waiting: rooms.waiting,
+        text: rooms.text,
         owed: false,
-    })
+    }
 }

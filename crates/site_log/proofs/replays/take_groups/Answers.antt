@@ -1,4 +1,4 @@
-use Rattle.std.proofs.Common.{◌≡◌, ◌++◌, [], ◌∷◌, ℕ, List, true, false, Ok, ◌-◌, length, take, drop, refl, sym, ap, ◌∙◌, subst, arith, length-drop}
+use Rattle.std.proofs.Common.{◌≡◌, ◌++◌, [], ◌∷◌, ℕ, List, true, false, Ok, ◌-◌, length, take, drop, refl, ap, ◌∙◌, subst, arith, length-drop}
 use Rattle.std.proofs.lemmas.List.{take_rest}
 use Rattle.log_groups.specs.declared.groups.Ending.TheVariants.{Whole, Torn, Damaged as DamagedEnd}
 use Rattle.log_groups.specs.declared.readers.NextGroup.TheVariants.{Group, End}

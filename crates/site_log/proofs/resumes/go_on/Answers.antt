@@ -2,7 +2,7 @@ use Rattle.std.proofs.Common.{[], ◌∷◌, false, length, sym, subst}
 use Rattle.site_log.specs.Kept.{starts}
 use Rattle.site_log.specs.Stood.{Stands}
 use Rattle.site_log.proofs.Standing.{stands_start}
-use Rattle.site_log.proofs.resumes.resume.Goals as goal
+use Rattle.site_log.proofs.resumes.go_on.Goals as goal
 
 pub returns-clause-stands : goal.returns-clause-stands
 returns-clause-stands g c = λ s bodies stood count rest.
@@ -10,9 +10,9 @@ returns-clause-stands g c = λ s bodies stood count rest.
     let K = g.K.Disk in
     subst
     (λ f. Stands M K
-    (record { machine = c.args.machine; file = f; waiting = c.in-Ok.waiting; text = c.in-Ok-new.text; owed = false })
+    (record { machine = c.args.machine; file = f; waiting = c.args.rooms.waiting; text = c.args.rooms.text; owed = false })
     (starts s bodies) (record { moment = K.moment c.args.disk; count = length bodies } ∷ []))
-    (sym c.new-3.ensures)
+    (sym c.new.ensures)
     (stands_start M K
     (record {
       machine = c.args.machine;
@@ -24,8 +24,8 @@ returns-clause-stands g c = λ s bodies stood count rest.
         room = c.args.end.room;
         failed = false;
       };
-      waiting = c.in-Ok.waiting;
-      text = c.in-Ok-new.text;
+      waiting = c.args.rooms.waiting;
+      text = c.args.rooms.text;
       owed = false;
     })
-    s bodies c.group_laws.ensures.written (g.met.K.Disk.only_now c.args.disk) stood (λ h. record { rest = rest h; number = count }) c.in-Ok.ensures)
+    s bodies c.group_laws.ensures.written (g.met.K.Disk.only_now c.args.disk) stood (λ h. record { rest = rest h; number = count }) c.requires.none)
