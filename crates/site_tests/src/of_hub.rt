@@ -1,6 +1,7 @@
 //! A hub over a machine that settles what it answered, until it can't.
 
 ghost use Rattle.std.specs.Prelude.{◌≡◌, [], ◌∷◌, Bool, true, false, refl};
+ghost use Rattle.std.proofs.Common.{inl};
 
 use crate::talks::copied;
 use hub::{End, MemoryPorts, Move, Seen, serve};
@@ -23,6 +24,8 @@ impl Settling for Owing {
 
     ghost plain = { record { step = λ s e. true; reply = λ s e. 7 ∷ []; is_sure = λ e. true } };
 
+    ghost through = { λ _. record { step = λ s e. true; reply = λ s e. 7 ∷ []; is_sure = λ e. true } };
+
     ghost stands = { λ m s. m.owed ≡ s };
 
     ghost opening = { λ m. false };
@@ -42,6 +45,17 @@ impl Settling for Owing {
         Ok(())
     }
 
+    fn act_through(
+        &mut self,
+        door: u8,
+        actor: u16,
+        request: &[u8],
+        out: &mut ReplyBuf,
+    ) -> Result<(), NoMemory> {
+        let _ = door;
+        self.act(actor, request, out)
+    }
+
     fn owes(&self) -> bool {
         self.owed
     }
@@ -57,6 +71,8 @@ impl Settling for Owing {
     }
 
     ghost settles = { λ s. refl };
+
+    ghost guards = { λ door s e. inl refl };
 }
 
 /// A connection in a slot asks for something.
@@ -73,7 +89,7 @@ fn move_of(rt: &impl Abort, alloc: Global, letter: u8) -> Move {
         b'b' => asks(rt, alloc, 1),
         b'A' => Move::Write { slot: 0, most: 100 },
         b'B' => Move::Write { slot: 1, most: 100 },
-        _ => Move::Accept { comes: true },
+        _ => Move::Accept { comes: Some(0) },
     }
 }
 
