@@ -10,17 +10,22 @@ use Rattle.hub.specs.Laws.{IsSeenAs, trail, requests_of}
 use Rattle.hub.proofs.Serving.{answers_append}
 
 -- what answers events answers them as the machine that it is seen as
-answers_seen : {S P : Type 0} (w : PlainSettling S) (m : PlainMachine P) (shows : S → P) → IsSeenAs w m shows → (s : S) (es : List Event)
-    (ys : List (List ℕ)) (t : S) → Answers w.machine s es ys t → Answers m (shows s) es ys (shows t)
-answers_seen w m shows seen s [] [] t p = ap shows p
-answers_seen w m shows seen s (e ∷ es) (y ∷ ys) t p =
+pub answers_shown : {S P : Type 0} (n : PlainMachine S) (m : PlainMachine P) (shows : S → P) → ((s : S) (e : Event) → shows (n.step s e) ≡ m.step (shows s) e)
+    → ((s : S) (e : Event) → n.reply s e ≡ m.reply (shows s) e) → ((e : Event) → n.is_sure e ≡ m.is_sure e) → (s : S) (es : List Event)
+    (ys : List (List ℕ)) (t : S) → Answers n s es ys t → Answers m (shows s) es ys (shows t)
+answers_shown n m shows step reply is_sure s [] [] t p = ap shows p
+answers_shown n m shows step reply is_sure s (e ∷ es) (y ∷ ys) t p =
     elim p as (λ _. ((y ≡ m.reply (shows s) e) × Answers m (m.step (shows s) e) es ys (shows t))
     ⊎ ((y ≡ no_memory) × (m.is_sure e ≡ false) × Answers m (shows s) es ys (shows t))) [
-      | inl a ↦ inl (a.0 ∙ seen.reply s e, subst (λ u. Answers m u es ys (shows t)) (seen.step s e) (answers_seen w m shows seen (w.machine.step s e) es ys t a.1))
-      | inr b ↦ inr (b.0, sym (seen.is_sure e) ∙ b.1, answers_seen w m shows seen s es ys t b.2)
+      | inl a ↦ inl (a.0 ∙ reply s e, subst (λ u. Answers m u es ys (shows t)) (step s e) (answers_shown n m shows step reply is_sure (n.step s e) es ys t a.1))
+      | inr b ↦ inr (b.0, sym (is_sure e) ∙ b.1, answers_shown n m shows step reply is_sure s es ys t b.2)
     ]
-answers_seen w m shows seen s [] (y ∷ ys) t p = absurd p
-answers_seen w m shows seen s (e ∷ es) [] t p = absurd p
+answers_shown n m shows step reply is_sure s [] (y ∷ ys) t p = absurd p
+answers_shown n m shows step reply is_sure s (e ∷ es) [] t p = absurd p
+
+answers_seen : {S P : Type 0} (w : PlainSettling S) (m : PlainMachine P) (shows : S → P) → IsSeenAs w m shows → (s : S) (es : List Event)
+    (ys : List (List ℕ)) (t : S) → Answers w.machine s es ys t → Answers m (shows s) es ys (shows t)
+answers_seen w m shows seen s es ys t p = answers_shown w.machine m shows seen.step seen.reply seen.is_sure s es ys t p
 
 -- where each door lets all in, a connection is answered by the machine
 answers_plainly : {S : Type 0} (w : PlainSettling S) → ((door : ℕ) → w.through door ≡ w.machine) → (o : Option Talk) (u : S) (events : List Event)
