@@ -209,7 +209,7 @@ fn what_was_answered_is_settled_before_it_is_told(rt: HostRuntime) {
 fn is_told(calls: &[Seen], place: usize, reply: u8) -> bool {
     let frame = [0, 0, 0, 1, reply];
     calls.iter().any(|call| {
-        matches!(call, Seen::WroteTo { slot, bytes, .. } if *slot == place && bytes.as_slice() == &frame)
+        matches!(call, Seen::WroteTo { slot, bytes, .. } if *slot == place && bytes.as_slice() == frame.as_slice())
     })
 }
 
