@@ -47,8 +47,10 @@ none_of None f = refl
 none_of (Some t) f = absurd f
 
 -- nothing yet
-pub fresh_connection : (l : ConnectionState) → l ≡ record { cutter = []; waiting = []; long = false } → IsConnectionOf no_talk l
-fresh_connection l is = subst (λ k. IsConnectionOf no_talk k) (sym is) (record {
+pub fresh_connection : (door : ℕ) (l : ConnectionState) → l ≡ record { door = door; cutter = []; waiting = []; long = false } →
+    IsConnectionOf (no_talk door) l
+fresh_connection door l is = subst (λ k. IsConnectionOf (no_talk door) k) (sym is) (record {
+  door = refl;
   cut = record { whole = refl; each = tt };
   given = refl;
   stopped = inl (inl (omega arith));
@@ -64,10 +66,11 @@ given_more tw w lw left kw old new given parts put =
     ∙ sym (frames-append old new)))
 
 -- bytes came, a front of what waits was written, and requests were answered
-pub connection_more : (t : Talk) (l k : ConnectionState) (came w left : List ℕ) (bodies replies : List (List ℕ)) → IsConnectionOf t l → l.waiting ≡ w ++ left →
+pub connection_more : (t : Talk) (l k : ConnectionState) (came w left : List ℕ) (bodies replies : List (List ℕ)) → IsConnectionOf t l → k.door ≡ l.door → l.waiting ≡ w ++ left →
     Cuts (l.cutter ++ came) bodies k.cutter → k.waiting ≡ left ++ frames replies → IsStopped k.long k.cutter k.waiting →
     IsConnectionOf (more_talk t came w bodies replies) k
-connection_more t l k came w left bodies replies f parts cut put stopped = record {
+connection_more t l k came w left bodies replies f same parts cut put stopped = record {
+  door = same ∙ f.door;
   cut = more_bodies (t.came ++ came) t.bodies bodies (l.cutter ++ came) k.cutter (more_bytes t.came came t.bodies l.cutter f.cut) cut;
   given = given_more t.wrote w l.waiting left k.waiting t.replies replies f.given parts put;
   stopped = stopped;

@@ -90,7 +90,7 @@ due_is (Some rule) tally turns is =
 timely_more : (rule : Option UpkeepRule) (tally next : Tally) (older : List Turn) (turn : Turn) → IsNoted tally next turn → due rule older ≡ None →
     IsTimely rule older turn
 timely_more rule tally next older (Rested offer) p none = none
-timely_more rule tally next older (Opened slot) p none = none
+timely_more rule tally next older (Opened slot door) p none = none
 timely_more rule tally next older (Missed slot) p none = none
 timely_more rule tally next older TurnedAway p none = none
 timely_more rule tally next older (Received slot room came bodies replies) p none = none
@@ -110,7 +110,7 @@ tally_more : (rule : Option UpkeepRule) (tally next : Tally) (older : List Turn)
     IsTally rule next (turn ∷ older)
 tally_more None tally next older turn is p = tt
 tally_more (Some rule) tally next older (Rested offer) is p = p ∙ is
-tally_more (Some rule) tally next older (Opened slot) is p = p ∙ is
+tally_more (Some rule) tally next older (Opened slot door) is p = p ∙ is
 tally_more (Some rule) tally next older (Missed slot) is p = p ∙ is
 tally_more (Some rule) tally next older TurnedAway is p = p ∙ is
 tally_more (Some rule) tally next older (Received slot room came bodies replies) is p = noted_since rule tally next (since rule.code older) replies is p
@@ -121,7 +121,7 @@ tally_more (Some rule) tally next older Settled is p = absurd p
 
 counts_one : (tally next : Tally) (turn : Turn) → IsNoted tally next turn → counts turn ≡ 1
 counts_one tally next (Rested offer) p = refl
-counts_one tally next (Opened slot) p = refl
+counts_one tally next (Opened slot door) p = refl
 counts_one tally next (Missed slot) p = refl
 counts_one tally next TurnedAway p = refl
 counts_one tally next (Received slot room came bodies replies) p = refl

@@ -4,3 +4,4 @@ mod Holding
 mod Turning
 mod Leading
 mod Trails
+mod DoorTrails

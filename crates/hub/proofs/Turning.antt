@@ -6,18 +6,19 @@ use Rattle.std.proofs.lemmas.Bool.{cases_eq}
 use Rattle.hub.specs.Settlings.{PlainSettling}
 use Rattle.frame_cut.specs.Frames.{Cuts, IsLong}
 use Rattle.tardis_base.specs.Sizes.{piece}
+use Rattle.tardis_base.specs.Plain.{Event, Answers}
 use Rattle.hub.specs.declared.upkeeps.Tally.{Tally}
 use Rattle.hub.specs.declared.ports.Ready.{Ready}
 use Rattle.hub.specs.declared.ports.Ready.TheVariants.{Accept, Read, Write, Close}
 use Rattle.hub.specs.declared.ports.Seen.{Seen}
 use Rattle.hub.specs.declared.ports.Seen.TheVariants.{Accepted, Declined, ReadFrom, WroteTo, Closed}
-use Rattle.hub.specs.Answering.{Serves}
+use Rattle.hub.specs.Answering.{asks, Serves}
 use Rattle.hub.specs.Connections.{slots, ConnectionState, connection_at, OthersStay, IsStopped}
 use Rattle.hub.specs.Telling.{Tells}
 use Rattle.hub.specs.Talks.{Talk, no_talk, waits}
 use Rattle.hub.specs.Turns.{Turn, Rested, Opened, Missed, TurnedAway, Received, Sent, Ended, Settled, talk, more_of, MayRest, IsShut, HasNothing, HasSome}
 use Rattle.hub.specs.Turns.{WaitFew, WaitSoMany}
-use Rattle.hub.specs.Runs.{close, Ran}
+use Rattle.hub.specs.Runs.{close, Ran, AnswersTo}
 use Rattle.hub.specs.Keeping.{Fits, Keeps, Settles, AreBefore, WentOn, IsToldBehind, GoesOn, Waits}
 use Rattle.hub.proofs.Holding.{waits_is, held_is, each_talk, none_of, fresh_connection, connection_more, fits_there}
 
@@ -26,17 +27,23 @@ pub tells_none : (o : Option (List Seen)) → Tells o o []
 tells_none None = tt
 tells_none (Some seen) = sym (append-nil seen)
 
+-- what was answered as the machine that is seen through a connection's door is answered so to its talk
+answers_to : {S : Type 0} (w : PlainSettling S) (o : Option Talk) (t : Talk) (l : ConnectionState) (events : List Event) (replies : List (List ℕ)) (u v : S) →
+    o ≡ Some t → l.door ≡ t.door → Answers (w.through l.door) u events replies v → AnswersTo w o u events replies v
+answers_to w o t l events replies u v is same answers =
+    subst (λ z. AnswersTo w z u events replies v) (sym is) (subst (λ door. Answers (w.through door) u events replies v) same answers)
+
 -- bytes came of a connection, and requests were answered
 received_at : {S : Type 0} (w : PlainSettling S) (from to : S → Type 0) (old new : List (Option ConnectionState)) (slot room : ℕ) (came : List ℕ)
     (l k : ConnectionState) (tally next : Tally) (before after : Option (List Seen)) (s : S) (turns : List Turn) (o : Option Talk)
-    → talk slot turns ≡ o → Fits o (Some l) → connection_at new slot ≡ Some k → OthersStay slot old new → length l.waiting ≤ piece → room ≡ piece
-    → Serves w.machine from to (slot + 1) (l.cutter ++ came) k.cutter l.waiting k.waiting tally next → IsStopped k.long k.cutter k.waiting →
+    → talk slot turns ≡ o → Fits o (Some l) → connection_at new slot ≡ Some k → OthersStay slot old new → k.door ≡ l.door → length l.waiting ≤ piece
+    → room ≡ piece → Serves (w.through l.door) from to (slot + 1) (l.cutter ++ came) k.cutter l.waiting k.waiting tally next → IsStopped k.long k.cutter k.waiting →
     Tells before after (ReadFrom slot room came ∷ [])
     → Keeps w from s old turns → WentOn w to s new turns tally next (IsToldBehind (Read slot) before after)
-received_at w from to old new slot room came l k tally next before after s turns None e f is others few much serves stopped tells keeps = absurd f
-received_at w from to old new slot room came l k tally next before after s turns (Some t) e f is others few much serves stopped tells keeps =
+received_at w from to old new slot room came l k tally next before after s turns None e f is others same few much serves stopped tells keeps = absurd f
+received_at w from to old new slot room came l k tally next before after s turns (Some t) e f is others same few much serves stopped tells keeps =
     let a = serves.answered keeps.state keeps.stands in
-    let connection = connection_more t l k came [] l.waiting serves.bodies a.replies f refl serves.read a.put stopped in
+    let connection = connection_more t l k came [] l.waiting serves.bodies a.replies f same refl serves.read a.put stopped in
     let here : Fits (more_of (talk slot turns) came [] serves.bodies a.replies) (connection_at new slot) =
     subst (λ z. Fits (more_of (talk slot turns) came [] serves.bodies a.replies) z) (sym is)
     (subst (λ z. Fits (more_of z came [] serves.bodies a.replies) (Some k)) (sym e) connection) in
@@ -48,7 +55,7 @@ received_at w from to old new slot room came l k tally next before after s turns
       turn = Received slot room came serves.bodies a.replies;
       keeps = record {
         state = a.state;
-        ran = (keeps.state, (keeps.ran, a.answers));
+        ran = (keeps.state, (keeps.ran, answers_to w (talk slot turns) t l (asks (slot + 1) serves.bodies) a.replies keeps.state a.state e f.door a.answers));
         stands = a.stands;
         served = (
           (subst (λ z. WaitFew z) (sym e) few', much),
@@ -62,13 +69,13 @@ received_at w from to old new slot room came l k tally next before after s turns
 
 pub received : {S : Type 0} (w : PlainSettling S) (from to : S → Type 0) (old new : List (Option ConnectionState)) (slot room : ℕ) (came : List ℕ)
     (l k : ConnectionState) (tally next : Tally) (before after : Option (List Seen))
-    → connection_at old slot ≡ Some l → connection_at new slot ≡ Some k → OthersStay slot old new → length l.waiting ≤ piece → room ≡ piece
-    → Serves w.machine from to (slot + 1) (l.cutter ++ came) k.cutter l.waiting k.waiting tally next → IsStopped k.long k.cutter k.waiting →
+    → connection_at old slot ≡ Some l → connection_at new slot ≡ Some k → OthersStay slot old new → k.door ≡ l.door → length l.waiting ≤ piece
+    → room ≡ piece → Serves (w.through l.door) from to (slot + 1) (l.cutter ++ came) k.cutter l.waiting k.waiting tally next → IsStopped k.long k.cutter k.waiting →
     Tells before after (ReadFrom slot room came ∷ [])
     → GoesOn w from to old new (Read slot) tally next before after
-received w from to old new slot room came l k tally next before after was is others few much serves stopped tells s turns keeps =
+received w from to old new slot room came l k tally next before after was is others same few much serves stopped tells s turns keeps =
     received_at w from to old new slot room came l k tally next before after s turns (talk slot turns) refl
-    (subst (λ o. Fits (talk slot turns) o) was (keeps.fits slot)) is others few much serves stopped tells keeps
+    (subst (λ o. Fits (talk slot turns) o) was (keeps.fits slot)) is others same few much serves stopped tells keeps
 
 -- what was owed is settled, or nothing was: the run goes on to where nothing is owed
 record Settling {S : Type 0} (w : PlainSettling S) (to : S → Type 0) (s : S) (connections : List (Option ConnectionState)) (turns : List Turn) : Type 0 where
@@ -109,18 +116,18 @@ settled_at w from mid old s turns keeps settles = elim settles.same [
 -- a front of what waits was written to a connection, and requests were answered
 sent_at : {S : Type 0} (w : PlainSettling S) (mid to : S → Type 0) (old new : List (Option ConnectionState)) (slot offered count : ℕ) (l k : ConnectionState)
     (tally next : Tally) (before after : Option (List Seen)) (s : S) (before_it : List Turn) (o : Option Talk) (settling : Settling w mid s old before_it)
-    → talk slot settling.earlier ≡ o → Fits o (Some l) → connection_at new slot ≡ Some k → OthersStay slot old new → offered ≡ length l.waiting
-    → Serves w.machine mid to (slot + 1) l.cutter k.cutter (drop count l.waiting) k.waiting tally next →
+    → talk slot settling.earlier ≡ o → Fits o (Some l) → connection_at new slot ≡ Some k → OthersStay slot old new → k.door ≡ l.door
+    → offered ≡ length l.waiting → Serves (w.through l.door) mid to (slot + 1) l.cutter k.cutter (drop count l.waiting) k.waiting tally next →
     (IsStopped l.long l.cutter l.waiting → IsStopped k.long k.cutter k.waiting) → Tells before after (WroteTo slot offered (take count l.waiting) ∷ [])
     → WentOn w to s new before_it tally next (IsToldBehind (Write slot) before after)
-sent_at w mid to old new slot offered count l k tally next before after s before_it None settling e f is others all serves stopped tells = absurd f
-sent_at w mid to old new slot offered count l k tally next before after s before_it (Some t) settling e f is others all serves stopped tells =
+sent_at w mid to old new slot offered count l k tally next before after s before_it None settling e f is others same all serves stopped tells = absurd f
+sent_at w mid to old new slot offered count l k tally next before after s before_it (Some t) settling e f is others same all serves stopped tells =
     let wrote : List ℕ = take count l.waiting in
     let turns = settling.earlier in
     let keeps = settling.keeps in
     let a = serves.answered keeps.state keeps.stands in
     let cut : Cuts (l.cutter ++ []) serves.bodies k.cutter = subst (λ z. Cuts z serves.bodies k.cutter) (sym (append-nil l.cutter)) serves.read in
-    let connection = connection_more t l k [] wrote (drop count l.waiting) serves.bodies a.replies f (sym (take-append-drop count l.waiting)) cut a.put
+    let connection = connection_more t l k [] wrote (drop count l.waiting) serves.bodies a.replies f same (sym (take-append-drop count l.waiting)) cut a.put
     (stopped f.stopped) in
     let here : Fits (more_of (talk slot turns) [] wrote serves.bodies a.replies) (connection_at new slot) =
     subst (λ z. Fits (more_of (talk slot turns) [] wrote serves.bodies a.replies) z) (sym is)
@@ -133,7 +140,16 @@ sent_at w mid to old new slot offered count l k tally next before after s before
       turn = Sent slot offered wrote serves.bodies a.replies;
       keeps = record {
         state = a.state;
-        ran = (keeps.state, (keeps.ran, (settling.is_settled, a.answers)));
+        ran = (
+          keeps.state,
+          (
+            keeps.ran,
+            (
+              settling.is_settled,
+              answers_to w (talk slot turns) t l (asks (slot + 1) serves.bodies) a.replies keeps.state a.state e f.door a.answers,
+            ),
+          ),
+        );
         stands = a.stands;
         served = (
           subst (λ z. WaitSoMany z offered) (sym e) all',
@@ -147,14 +163,14 @@ sent_at w mid to old new slot offered count l k tally next before after s before
 
 pub sent : {S : Type 0} (w : PlainSettling S) (from mid to : S → Type 0) (old new : List (Option ConnectionState)) (slot offered count : ℕ) (l k : ConnectionState)
     (tally next : Tally) (before after : Option (List Seen)) → ((s : S) → from s → Settles w mid s)
-    → connection_at old slot ≡ Some l → connection_at new slot ≡ Some k → OthersStay slot old new → offered ≡ length l.waiting
-    → Serves w.machine mid to (slot + 1) l.cutter k.cutter (drop count l.waiting) k.waiting tally next →
+    → connection_at old slot ≡ Some l → connection_at new slot ≡ Some k → OthersStay slot old new → k.door ≡ l.door
+    → offered ≡ length l.waiting → Serves (w.through l.door) mid to (slot + 1) l.cutter k.cutter (drop count l.waiting) k.waiting tally next →
     (IsStopped l.long l.cutter l.waiting → IsStopped k.long k.cutter k.waiting) → Tells before after (WroteTo slot offered (take count l.waiting) ∷ [])
     → GoesOn w from to old new (Write slot) tally next before after
-sent w from mid to old new slot offered count l k tally next before after settles was is others all serves stopped tells s turns keeps =
+sent w from mid to old new slot offered count l k tally next before after settles was is others same all serves stopped tells s turns keeps =
     let settling = settled_at w from mid old s turns keeps (settles keeps.state keeps.stands) in
     sent_at w mid to old new slot offered count l k tally next before after s turns (talk slot settling.earlier) settling refl
-    (subst (λ o. Fits (talk slot settling.earlier) o) was (settling.keeps.fits slot)) is others all serves stopped tells
+    (subst (λ o. Fits (talk slot settling.earlier) o) was (settling.keeps.fits slot)) is others same all serves stopped tells
 
 -- what was owed wasn't settled, and bytes wait
 pub waits_at : (o : Option Talk) (l : Option ConnectionState) → Fits o l → Waits l → HasSome o
@@ -164,34 +180,35 @@ waits_at (Some t) None f more = absurd more
 waits_at (Some t) (Some k) f more = subst (λ z. 0 < length z) (sym (waits_is t k.waiting f.given)) more
 
 -- a connection came into a free slot
-pub opened : {S : Type 0} (w : PlainSettling S) (from to : S → Type 0) (old new : List (Option ConnectionState)) (slot : ℕ) (l : ConnectionState) (tally : Tally)
+pub opened : {S : Type 0} (w : PlainSettling S) (from to : S → Type 0) (old new : List (Option ConnectionState)) (slot door : ℕ) (l : ConnectionState) (tally : Tally)
     (before after : Option (List Seen))
-    → ((s : S) → from s → to s) → slot < slots → connection_at old slot ≡ None → connection_at new slot ≡ Some l → l ≡ record { cutter = []; waiting = []; long = false }
-    → OthersStay slot old new → Tells before after (Accepted slot true ∷ [])
+    → ((s : S) → from s → to s) → slot < slots → connection_at old slot ≡ None → connection_at new slot ≡ Some l → l ≡ record { door = door; cutter = []; waiting = []; long = false }
+    → OthersStay slot old new → Tells before after (Accepted slot (Some door) ∷ [])
     → GoesOn w from to old new Accept tally tally before after
-opened w from to old new slot l tally before after same within was is fresh others tells s turns keeps =
-    let here : Fits (Some no_talk) (connection_at new slot) = subst (λ z. Fits (Some no_talk) z) (sym is) (fresh_connection l fresh) in
-    let fits = fits_there slot (λ n. Some no_talk) (λ n. talk n turns) old new keeps.fits here others in
+opened w from to old new slot door l tally before after same within was is fresh others tells s turns keeps =
+    let here : Fits (Some (no_talk door)) (connection_at new slot) =
+    subst (λ z. Fits (Some (no_talk door)) z) (sym is) (fresh_connection door l fresh) in
+    let fits = fits_there slot (λ n. Some (no_talk door)) (λ n. talk n turns) old new keeps.fits here others in
     let free : talk slot turns ≡ None = none_of (talk slot turns) (subst (λ z. Fits (talk slot turns) z) was (keeps.fits slot)) in
     record {
       earlier = turns;
       behind = inl refl;
-      turn = Opened slot;
+      turn = Opened slot door;
       keeps = record {
         state = keeps.state;
         ran = (keeps.state, (keeps.ran, refl));
         stands = same keeps.state keeps.stands;
-        served = ((within, free), (λ n. each_talk (talk n (Opened slot ∷ turns)) (connection_at new n) (fits n), keeps.served));
+        served = ((within, free), (λ n. each_talk (talk n (Opened slot door ∷ turns)) (connection_at new n) (fits n), keeps.served));
         fits = fits;
       };
       noted = refl;
-      told = (Accepted slot true ∷ [], (refl, tells));
+      told = (Accepted slot (Some door) ∷ [], (refl, tells));
     }
 
 -- none came after all
 pub missed : {S : Type 0} (w : PlainSettling S) (from to : S → Type 0) (old new : List (Option ConnectionState)) (slot : ℕ) (tally : Tally)
     (before after : Option (List Seen))
-    → ((s : S) → from s → to s) → new ≡ old → slot < slots → connection_at old slot ≡ None → Tells before after (Accepted slot false ∷ [])
+    → ((s : S) → from s → to s) → new ≡ old → slot < slots → connection_at old slot ≡ None → Tells before after (Accepted slot None ∷ [])
     → GoesOn w from to old new Accept tally tally before after
 missed w from to old new slot tally before after same unchanged within was tells s turns keeps =
     let fits : (n : ℕ) → Fits (talk n turns) (connection_at new n) = λ n. subst (λ z. Fits (talk n turns) (connection_at z n)) (sym unchanged) (keeps.fits n) in
@@ -208,7 +225,7 @@ missed w from to old new slot tally before after same unchanged within was tells
         fits = fits;
       };
       noted = refl;
-      told = (Accepted slot false ∷ [], (refl, tells));
+      told = (Accepted slot None ∷ [], (refl, tells));
     }
 
 -- a connection was turned away

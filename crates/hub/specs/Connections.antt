@@ -8,8 +8,10 @@ use Rattle.hub.specs.declared.turns.TheConstants.{SLOTS}
 abbrev pub slots : ℕ
 slots = SLOTS
 
--- The bytes that came and aren't answered, those that wait to be written, and whether the frame that is next is too long
+-- The door through which it came; the bytes that came and aren't answered, those that wait to be written, and whether the
+-- frame that is next is too long
 pub record ConnectionState : Type 0 where
+  pub door : ℕ
   pub cutter : List ℕ
   pub waiting : List ℕ
   pub long : Bool

@@ -15,8 +15,9 @@ use Rattle.hub.specs.Turns.{Turn, Received, Sent, KeptUp, Settled, talk, calls_o
 use Rattle.hub.specs.Timing.{since, AreTimely}
 use Rattle.hub.specs.Runs.{Ran, AreServed, count_of}
 
--- the connection of a talk holds what came and wasn't asked yet, and what waits
+-- the connection of a talk has its door, and holds what came and wasn't asked yet, and what waits
 pub record IsConnectionOf (t : Talk) (l : ConnectionState) : Type 0 where
+  pub door : l.door ≡ t.door
   pub cut : Cuts t.came t.bodies l.cutter
   pub given : t.wrote ++ l.waiting ≡ frames t.replies
   pub stopped : IsStopped l.long l.cutter l.waiting

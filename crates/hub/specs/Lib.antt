@@ -10,4 +10,6 @@ pub mod Timing
 pub mod Runs
 pub mod Keeping
 pub mod Laws
+pub mod Doors
+pub mod DoorLaws
 pub mod Memory

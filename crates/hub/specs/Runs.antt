@@ -1,6 +1,6 @@
 -- Whole runs of a hub: one trail of all requests, and what each connection that ever was has of it.
-use Rattle.std.specs.Prelude.{◌≡◌, ℕ, ◌+◌, List, [], ◌∷◌, ◌++◌, Option, None, IfSome}
-use Rattle.tardis_base.specs.Plain.{Answers}
+use Rattle.std.specs.Prelude.{◌≡◌, ℕ, ◌+◌, List, [], ◌∷◌, ◌++◌, Option, Some, None, IfSome}
+use Rattle.tardis_base.specs.Plain.{Event, Answers}
 use Rattle.hub.specs.declared.ports.Ready.TheVariants.{Write, Stop}
 use Rattle.hub.specs.declared.ports.Seen.{Seen}
 use Rattle.hub.specs.declared.ports.Seen.TheVariants.{Offered}
@@ -10,7 +10,7 @@ use Rattle.hub.specs.Settlings.{PlainSettling}
 use Rattle.hub.specs.Upkeeps.{UpkeepRule}
 use Rattle.hub.specs.Answering.{asks}
 use Rattle.hub.specs.Telling.{Tells}
-use Rattle.hub.specs.Talks.{IsTalk}
+use Rattle.hub.specs.Talks.{Talk, IsTalk}
 use Rattle.hub.specs.Timing.{due, AreTimely}
 use Rattle.hub.specs.Turns.{Turn, Rested, Opened, Missed, TurnedAway, Received, Sent, Ended, KeptUp, Settled, calls_in, talk, HasSome, IsRight}
 
@@ -18,24 +18,31 @@ use Rattle.hub.specs.Turns.{Turn, Rested, Opened, Missed, TurnedAway, Received, 
 abbrev pub close : List ℕ
 close = 21 ∷ []
 
--- What a turn makes of a state: its requests are those of the actor that is the slot's number and one more, and the hub's
--- own are those of actor 0. Bytes are written to a connection only where nothing is owed of all that was answered before.
-abbrev pub Leads : {S : Type 0} → PlainSettling S → S → Turn → S → Type 0
-Leads w u (Rested offer) t = t ≡ u
-Leads w u (Opened slot) t = t ≡ u
-Leads w u (Missed slot) t = t ≡ u
-Leads w u TurnedAway t = t ≡ u
-Leads w u (Received slot room came bodies replies) t = Answers w.machine u (asks (slot + 1) bodies) replies t
-Leads w u (Sent slot offered wrote bodies replies) t = w.is_settled u × Answers w.machine u (asks (slot + 1) bodies) replies t
-Leads w u (Ended slot) t = t ≡ w.machine.step u (slot + 1, close)
-Leads w u (KeptUp bodies replies) t = Answers w.machine u (asks 0 bodies) replies t
-Leads w u Settled t = t ≡ w.settled u
+-- the requests of a connection are answered by the machine as it is seen through the connection's door
+abbrev pub AnswersTo : {S : Type 0} → PlainSettling S → Option Talk → S → List Event → List (List ℕ) → S → Type 0
+AnswersTo w None u events replies t = ⊥
+AnswersTo w (Some connection) u events replies t = Answers (w.through connection.door) u events replies t
+
+-- What a turn behind older ones makes of a state: its requests are those of the actor that is the slot's number and one
+-- more, through the door of the connection that has the slot; and the hub's own are those of actor 0, through none, as the
+-- request that closes a session. Bytes are written to a connection only where nothing is owed of all that was answered
+-- before.
+abbrev pub Leads : {S : Type 0} → PlainSettling S → List Turn → S → Turn → S → Type 0
+Leads w older u (Rested offer) t = t ≡ u
+Leads w older u (Opened slot door) t = t ≡ u
+Leads w older u (Missed slot) t = t ≡ u
+Leads w older u TurnedAway t = t ≡ u
+Leads w older u (Received slot room came bodies replies) t = AnswersTo w (talk slot older) u (asks (slot + 1) bodies) replies t
+Leads w older u (Sent slot offered wrote bodies replies) t = w.is_settled u × AnswersTo w (talk slot older) u (asks (slot + 1) bodies) replies t
+Leads w older u (Ended slot) t = t ≡ w.machine.step u (slot + 1, close)
+Leads w older u (KeptUp bodies replies) t = Answers w.machine u (asks 0 bodies) replies t
+Leads w older u Settled t = t ≡ w.settled u
 
 -- From s these turns, of which the newest is first, led to t: the requests of all connections are one trail, and each is
--- answered by the plain machine where it stands in it.
+-- answered where it stands in it by the plain machine, as it is seen through the connection's door.
 abbrev pub Ran : {S : Type 0} → PlainSettling S → S → List Turn → S → Type 0
 Ran w s [] t = t ≡ s
-Ran w s (turn ∷ older) t = (u : _) × (Ran w s older u × Leads w u turn t)
+Ran w s (turn ∷ older) t = (u : _) × (Ran w s older u × Leads w older u turn t)
 
 -- Each turn was right where it stands; and then, as at each earlier moment, each connection that was there had its
 -- replies. So each that ever was had them when it ended.

@@ -3,20 +3,22 @@ use Rattle.std.specs.Prelude.{◌≡◌, ℕ, ◌<◌, List, [], ◌++◌, lengt
 use Rattle.tardis_base.specs.Sizes.{piece}
 use Rattle.frame_cut.specs.Frames.{frames, Cuts, IsEnd}
 
--- what came of it and what was written to it, its requests and their replies
+-- the door through which it came; what came of it and what was written to it, its requests and their replies
 pub record Talk : Type 0 where
+  pub door : ℕ
   pub came : List ℕ
   pub wrote : List ℕ
   pub bodies : List (List ℕ)
   pub replies : List (List ℕ)
 
 -- nothing yet
-abbrev pub no_talk : Talk
-no_talk = record { came = []; wrote = []; bodies = []; replies = [] }
+abbrev pub no_talk : ℕ → Talk
+no_talk door = record { door = door; came = []; wrote = []; bodies = []; replies = [] }
 
 -- more of each
 abbrev pub more_talk : Talk → List ℕ → List ℕ → List (List ℕ) → List (List ℕ) → Talk
 more_talk t came wrote bodies replies = record {
+  door = t.door;
   came = t.came ++ came;
   wrote = t.wrote ++ wrote;
   bodies = t.bodies ++ bodies;

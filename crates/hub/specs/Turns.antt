@@ -9,13 +9,13 @@ use Rattle.hub.specs.declared.ports.Seen.{Seen}
 use Rattle.hub.specs.declared.ports.Seen.TheVariants.{Offered, Accepted, Declined, ReadFrom, WroteTo, Closed}
 use Rattle.hub.specs.Talks.{Talk, no_talk, more_talk, held, waits}
 
--- Nothing was done of what was offered; a connection came into a slot, or none came after all, or it was turned away for
+-- Nothing was done of what was offered; a connection came into a slot through a door, or none came after all, or it was turned away for
 -- want of memory; bytes came of one, or a front of what waits was written to it, and requests were answered by these
 -- replies; or it ended, and its session was closed. Or the hub itself asked requests, and they were answered by these
 -- replies; or what was answered before was settled, so that bytes could be written.
 pub data Turn : Type 0 where
   Rested : (offer : Ready) → Turn
-  Opened : (slot : ℕ) → Turn
+  Opened : (slot door : ℕ) → Turn
   Missed : (slot : ℕ) → Turn
   TurnedAway : Turn
   Received : (slot room : ℕ) → (came : List ℕ) → (bodies replies : List (List ℕ)) → Turn
@@ -27,8 +27,8 @@ pub data Turn : Type 0 where
 -- what the edge sees of a turn: its offer, and the call that was made; nothing of what the hub asks itself or settles
 abbrev pub calls_of : Turn → List Seen
 calls_of (Rested offer) = Offered offer ∷ []
-calls_of (Opened slot) = Offered Accept ∷ Accepted slot true ∷ []
-calls_of (Missed slot) = Offered Accept ∷ Accepted slot false ∷ []
+calls_of (Opened slot door) = Offered Accept ∷ Accepted slot (Some door) ∷ []
+calls_of (Missed slot) = Offered Accept ∷ Accepted slot None ∷ []
 calls_of TurnedAway = Offered Accept ∷ Declined ∷ []
 calls_of (Received slot room came bodies replies) = Offered (Read slot) ∷ ReadFrom slot room came ∷ []
 calls_of (Sent slot offered wrote bodies replies) = Offered (Write slot) ∷ WroteTo slot offered wrote ∷ []
@@ -53,7 +53,7 @@ more_of (Some t) came wrote bodies replies = Some (more_talk t came wrote bodies
 -- what the connection in slot n has after a turn
 abbrev pub talk_after : ℕ → Turn → Option Talk → Option Talk
 talk_after n (Rested offer) old = old
-talk_after n (Opened slot) old = there (n == slot) (Some no_talk) old
+talk_after n (Opened slot door) old = there (n == slot) (Some (no_talk door)) old
 talk_after n (Missed slot) old = old
 talk_after n TurnedAway old = old
 talk_after n (Received slot room came bodies replies) old = there (n == slot) (more_of old came [] bodies replies) old
@@ -105,7 +105,7 @@ HasFreeSlot older = (n : ℕ) × (n < slots) × (talk n older ≡ None)
 -- requests itself is said by `AreTimely`.
 abbrev pub IsRight : List Turn → Turn → Type 0
 IsRight older (Rested offer) = MayRest older offer
-IsRight older (Opened slot) = (slot < slots) × (talk slot older ≡ None)
+IsRight older (Opened slot door) = (slot < slots) × (talk slot older ≡ None)
 IsRight older (Missed slot) = (slot < slots) × (talk slot older ≡ None)
 IsRight older TurnedAway = HasFreeSlot older
 IsRight older (Received slot room came bodies replies) = WaitFew (talk slot older) × (room ≡ piece)

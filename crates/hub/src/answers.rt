@@ -17,22 +17,24 @@ use tardis_base::{NO_MEMORY, NoMemory, PIECE, ReplyBuf};
 /// The request that closes a session.
 const CLOSE: [u8; 1] = [21];
 
-/// Answers the requests that are held, until much waits. Answers whether the frame that is next is too long.
+/// Answers the requests that are held, which came through the door, until much waits. Answers whether the frame that is next is
+/// too long.
 pub(crate) fn answer_held<M: Settling>(
     machine: &mut M,
+    door: u8,
     actor: u16,
     cutter: &mut FrameCutter,
     waiting: &mut Waiting,
     reply: &mut ReplyBuf,
     tally: &mut Tally,
 ) -> bool
-    ensures served { Serves M.plain (M.stands machine.old) (M.stands machine.new) actor cutter.old cutter.new waiting.old waiting.new tally.old tally.new }
+    ensures served { Serves (M.through door) (M.stands machine.old) (M.stands machine.new) actor cutter.old cutter.new waiting.old waiting.new tally.old tally.new }
     ensures stopped { IsStopped result cutter.new waiting.new }
     ensures opening { M.opening machine.new ≡ M.opening machine.old }
 {
     while waiting.len() <= PIECE {
         match cutter.next() {
-            Cut::Frame(body) => answer_body(machine, actor, body, waiting, reply, tally),
+            Cut::Frame(body) => answer_body(machine, door, actor, body, waiting, reply, tally),
             Cut::NeedMore => return false,
             Cut::Long { .. } => return true,
         }
@@ -40,9 +42,10 @@ pub(crate) fn answer_held<M: Settling>(
     false
 }
 
-/// Answers one request. Where the machine finds no memory the reply says so.
+/// Answers one request, as the machine that is seen through the door. Where that finds no memory the reply says so.
 pub(crate) fn answer_body<M: Settling>(
     machine: &mut M,
+    door: u8,
     actor: u16,
     body: &[u8],
     waiting: &mut Waiting,
@@ -50,11 +53,11 @@ pub(crate) fn answer_body<M: Settling>(
     tally: &mut Tally,
 )
     requires few { length waiting.old ≤ piece }
-    ensures answered { (s : M.Plain) → M.stands machine.old s → Replied M.plain (M.stands machine.new) waiting.old waiting.new tally.old tally.new s
+    ensures answered { (s : M.Plain) → M.stands machine.old s → Replied (M.through door) (M.stands machine.new) waiting.old waiting.new tally.old tally.new s
         (actor, body.now) }
     ensures opening { M.opening machine.new ≡ M.opening machine.old }
 {
-    match machine.act(actor, body, reply) {
+    match machine.act_through(door, actor, body, reply) {
         Ok(()) => put_reply(reply.bytes(), waiting, tally),
         Err(NoMemory) => put_reply(&NO_MEMORY, waiting, tally),
     }
@@ -71,7 +74,7 @@ fn put_reply(reply: &[u8], waiting: &mut Waiting, tally: &mut Tally)
     tally.note(reply);
 }
 
-/// Closes the session of the actor, and leaves the reply.
+/// Closes the session of the actor, through no door, and leaves the reply.
 pub(crate) fn close_session<M: Settling>(machine: &mut M, actor: u16, reply: &mut ReplyBuf)
     requires { M.plain.is_sure (actor, close) ≡ true }
     ensures stepped { (s : M.Plain) → M.stands machine.old s → M.stands machine.new (M.plain.step s (actor, close)) }

@@ -14,10 +14,11 @@ use std::alloc::Global;
 use std::marker::Model;
 use tardis_base::{NoMemory, PIECE, ReplyBuf};
 
-/// A connection's bytes: those that came and aren't answered, those that wait to be written, and whether the frame that
-/// is next is too long. It is seen as these.
+/// A connection: the number of the door through which it came; its bytes, those that came and aren't answered and those that
+/// wait to be written; and whether the frame that is next is too long. It is seen as these.
 #[derive(Drop)]
 pub struct Connection {
+    door: u8,
     cutter: FrameCutter,
     waiting: Waiting,
     long: bool,
@@ -30,23 +31,43 @@ impl Model for Connection {
 
     ghost Value = { ConnectionState };
 
-    ghost view = { λ l. record { cutter = l.cutter; waiting = l.waiting; long = l.long } };
+    ghost view = { λ l. record { door = l.door; cutter = l.cutter; waiting = l.waiting; long = l.long } };
 
     ghost invariant = { λ l. l.long ≡ false → length l.waiting ≤ piece → length l.cutter ≤ longest_framed };
 }
 
-impl Connection {
-    /// A connection of which no bytes came. All room is reserved now, and none is taken later.
-    pub(crate) fn new(alloc: Global) -> Result<Connection, NoMemory>
-        ensures { IfOk result (λ l. l ≡ record { cutter = []; waiting = []; long = false }) }
+/// The room of a connection that may come.
+#[derive(Drop)]
+pub(crate) struct Room {
+    cutter: FrameCutter,
+    waiting: Waiting,
+}
+
+impl Room {
+    /// All that a connection needs is reserved now, and none is taken later.
+    pub(crate) fn new(alloc: Global) -> Result<Room, NoMemory>
+        ensures { IfOk result (λ room. (room.cutter ≡ []) × (room.waiting ≡ [])) }
     {
         let cutter = FrameCutter::new(alloc)?;
         let waiting = Waiting::new(alloc)?;
-        Ok(Connection {
+        Ok(Room { cutter, waiting })
+    }
+}
+
+impl Connection {
+    /// A connection that came through the door, of which no bytes came yet.
+    pub(crate) fn new(door: u8, room: Room) -> Connection
+        requires came { room.cutter ≡ [] }
+        requires waits { room.waiting ≡ [] }
+        ensures { result ≡ record { door = door; cutter = []; waiting = []; long = false } }
+    {
+        let Room { cutter, waiting } = room;
+        Connection {
+            door,
             cutter,
             waiting,
             long: false,
-        })
+        }
     }
 
     /// Whether more is read of the connection.
@@ -69,14 +90,16 @@ impl Connection {
         requires short { self.old.long ≡ false }
         requires few { length self.old.waiting ≤ piece }
         requires size { length bytes.now ≤ piece }
-        ensures served { Serves M.plain (M.stands machine.old) (M.stands machine.new) actor
+        ensures served { Serves (M.through self.old.door) (M.stands machine.old) (M.stands machine.new) actor
             (self.old.cutter ++ bytes.now) self.new.cutter self.old.waiting self.new.waiting tally.old tally.new }
         ensures stopped { IsStopped self.new.long self.new.cutter self.new.waiting }
+        ensures door { self.new.door ≡ self.old.door }
         ensures opening { M.opening machine.new ≡ M.opening machine.old }
     {
         let _ = self.cutter.feed(bytes);
         self.long = answer_held(
             machine,
+            self.door,
             actor,
             &mut self.cutter,
             &mut self.waiting,
@@ -95,9 +118,10 @@ impl Connection {
         tally: &mut Tally,
     )
         requires count { count ≤ length self.old.waiting }
-        ensures served { Serves M.plain (M.stands machine.old) (M.stands machine.new) actor
+        ensures served { Serves (M.through self.old.door) (M.stands machine.old) (M.stands machine.new) actor
             self.old.cutter self.new.cutter (drop count self.old.waiting) self.new.waiting tally.old tally.new }
         ensures stopped { IsStopped self.old.long self.old.cutter self.old.waiting → IsStopped self.new.long self.new.cutter self.new.waiting }
+        ensures door { self.new.door ≡ self.old.door }
         ensures opening { M.opening machine.new ≡ M.opening machine.old }
     {
         self.waiting.pass(count);
@@ -106,6 +130,7 @@ impl Connection {
         }
         self.long = answer_held(
             machine,
+            self.door,
             actor,
             &mut self.cutter,
             &mut self.waiting,

@@ -1,7 +1,9 @@
 //! Laws of the runs of a hub.
 
-ghost use Rattle.hub.specs.Settlings.{settling, in_memory};
+ghost use Rattle.hub.specs.Settlings.{settling, in_memory, behind_doors};
+ghost use Rattle.hub.specs.Doors.{DoorRules, seen_through};
 ghost use Rattle.hub.specs.Laws.{IsSeenAs, OneTrail};
+ghost use Rattle.hub.specs.DoorLaws.{IsSeenBehind, TrailBehindDoors};
 
 use rest_machine::Settling;
 use tardis_base::Machine;
@@ -17,4 +19,18 @@ pub fn one_trail<M: Machine>()
 pub fn one_trail_as_seen<M: Settling, N: Machine>()
     ensures { (shows : M.Plain → N.Plain) → IsSeenAs (settling M.plain M.is_settled M.settled) N.plain shows
         → OneTrail (settling M.plain M.is_settled M.settled) N.plain shows }
+{}
+
+/// Behind doors, over a machine in memory, the requests that were let in are one run of the plain machine, in order, with the
+/// replies that were given to them; and each other one was answered at its door, from the state at its place. This call does
+/// nothing.
+pub fn one_trail_behind_doors<M: Machine>()
+    ensures { (rules : DoorRules M.Plain) → TrailBehindDoors (behind_doors M.plain (seen_through M.plain rules) (λ s. Unit {0}) (λ s. s)) M.plain rules (λ s. s) }
+{}
+
+/// So they are over a machine that settles, by the machine that it is seen as behind these doors. This call does nothing.
+pub fn one_trail_behind_doors_as_seen<M: Settling, N: Machine>()
+    ensures { (rules : DoorRules N.Plain) (shows : M.Plain → N.Plain)
+        → IsSeenBehind (behind_doors M.plain M.through M.is_settled M.settled) N.plain rules shows
+        → TrailBehindDoors (behind_doors M.plain M.through M.is_settled M.settled) N.plain rules shows }
 {}

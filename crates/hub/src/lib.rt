@@ -12,7 +12,9 @@ mod upkeeps;
 mod waitings;
 
 pub use connections::Connection;
-pub use laws::{one_trail, one_trail_as_seen};
+pub use laws::{
+    one_trail, one_trail_as_seen, one_trail_behind_doors, one_trail_behind_doors_as_seen,
+};
 pub use memory::{MemoryPorts, Move};
 pub use ports::{Ports, Ready, Seen};
 pub use serves::{End, serve};

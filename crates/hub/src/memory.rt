@@ -12,8 +12,8 @@ use tardis_base::ByteList;
 /// What an edge in memory does in one turn: its offer, and what it gives to the call that takes it up.
 #[derive(Drop)]
 pub enum Move {
-    /// A connection comes, or doesn't after all.
-    Accept { comes: bool },
+    /// A connection comes through the door of this number, or none comes after all.
+    Accept { comes: Option<u8> },
     /// These bytes come, as far as there is room.
     Read { slot: usize, bytes: ByteList },
     /// At most so many bytes are taken.
@@ -106,10 +106,10 @@ impl Ports for MemoryPorts {
         offer
     }
 
-    fn accept(&mut self, slot: usize) -> bool {
+    fn accept(&mut self, slot: usize) -> Option<u8> {
         let came = match self.moves.get(self.played.saturating_sub(1)) {
             Some(Move::Accept { comes }) => *comes,
-            _ => false,
+            _ => None,
         };
         self.note(Seen::Accepted { slot, came });
         came

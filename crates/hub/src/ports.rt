@@ -26,10 +26,10 @@ pub enum Ready {
 pub enum Seen {
     /// It was asked what is ready, and offered this.
     Offered(Ready),
-    /// It was to bring a connection into the slot, and one came or didn't.
+    /// It was to bring a connection into the slot, and one came through the door of this number, or none came.
     Accepted {
         slot: usize,
-        came: bool,
+        came: Option<u8>,
     },
     /// It was to turn a connection away.
     Declined,
@@ -62,8 +62,9 @@ pub trait Ports {
     fn ready(&mut self, connections: &[Option<Connection>]) -> Ready
         ensures told { Tells (seen self.old) (seen self.new) (Seen.Offered result ∷ []) };
 
-    /// Brings the next connection into the slot. `false` means that none came after all.
-    fn accept(&mut self, slot: usize) -> bool
+    /// Brings the next connection into the slot, and answers the number of the door through which it came. `None` means that
+    /// none came after all.
+    fn accept(&mut self, slot: usize) -> Option<u8>
         ensures told { Tells (seen self.old) (seen self.new) (Seen.Accepted slot result ∷ []) };
 
     /// Turns the next connection away.

@@ -3,7 +3,7 @@
 ghost use Rattle.std.specs.Prelude.{◌≡◌, ◌<◌, ℕ, ◌+◌, true, None, length, option_map, IfOk, IfSome, OnErr};
 ghost use Rattle.tardis_base.specs.Sizes.{piece};
 ghost use Rattle.hub.specs.Connections.{connection_at, slots};
-ghost use Rattle.hub.specs.Settlings.{settling};
+ghost use Rattle.hub.specs.Settlings.{behind_doors};
 ghost use Rattle.hub.specs.Upkeeps.{rule_of};
 ghost use Rattle.hub.specs.Runs.{close, IsRun};
 
@@ -27,7 +27,8 @@ pub enum End {
 }
 
 /// Serves the connections of an edge: each in a slot of 256, its requests those of the actor that is the slot's number
-/// and one more. Frames hold requests without an actor, and a reply's frame answers each.
+/// and one more. A request is answered by the machine as it is seen through the door through which its connection came; what
+/// the hub asks itself, and the request that closes a session, come through no door. Frames hold requests without an actor, and a reply's frame answers each.
 ///
 /// It makes one turn for each offer of the edge, until that says stop. All that came of a connection is answered in that
 /// turn, unless more than 65,536 bytes wait to be written to it: then it isn't read from until they are fewer, which
@@ -53,7 +54,7 @@ pub fn serve<M: Settling, P: Ports>(
     requires often { IfSome (option_map rule_of upkeep) (λ rule. 0 < rule.after) }
     requires sure { (n : ℕ) → n < slots → M.plain.is_sure (n + 1, close) ≡ true }
     ensures served { IfOk result (λ end. (s : M.Plain) → M.stands machine.old s
-        → IsRun (settling M.plain M.is_settled M.settled) (option_map rule_of upkeep.entry) (M.stands machine.new) s end (P.seen ports.old) (P.seen ports.new)) }
+        → IsRun (behind_doors M.plain M.through M.is_settled M.settled) (option_map rule_of upkeep.entry) (M.stands machine.new) s end (P.seen ports.old) (P.seen ports.new)) }
     ensures unsettled { IfOk result (λ end. end ≡ End.Unsettled → 0 < M.faults machine.new) }
     ensures nothing { OnErr result ((machine.new ≡ machine.old) × (ports.new ≡ ports.old)) }
     ensures opening { M.opening machine.new ≡ M.opening machine.old }
@@ -89,7 +90,7 @@ fn serve_connections<M: Settling, P: Ports>(
     requires room { length buf.old ≡ piece }
     requires sure { (n : ℕ) → n < slots → M.plain.is_sure (n + 1, close) ≡ true }
     ensures served { (s : M.Plain) → M.stands machine.old s
-        → IsRun (settling M.plain M.is_settled M.settled) (option_map rule_of upkeep.entry) (M.stands machine.new) s result (P.seen ports.old) (P.seen ports.new) }
+        → IsRun (behind_doors M.plain M.through M.is_settled M.settled) (option_map rule_of upkeep.entry) (M.stands machine.new) s result (P.seen ports.old) (P.seen ports.new) }
     ensures unsettled { result ≡ End.Unsettled → 0 < M.faults machine.new }
     ensures opening { M.opening machine.new ≡ M.opening machine.old }
 {

@@ -5,13 +5,13 @@ ghost use Rattle.tardis_base.specs.Sizes.{piece};
 ghost use Rattle.hub.specs.Connections.{connection_at, slots};
 ghost use Rattle.hub.specs.Runs.{close};
 ghost use Rattle.hub.specs.Telling.{Tells};
-ghost use Rattle.hub.specs.Settlings.{settling};
+ghost use Rattle.hub.specs.Settlings.{behind_doors};
 ghost use Rattle.hub.specs.Keeping.{Settles, GoesOn, Turned, IsUnsettled, Waits};
 ghost use Rattle.hub.specs.declared.ports.Seen.{Seen};
 ghost use Rattle.hub.specs.declared.upkeeps.Tally.{Tally};
 
 use crate::answers::close_session;
-use crate::connections::{Connection, free_slot, put_connection, take_connection};
+use crate::connections::{Connection, Room, free_slot, put_connection, take_connection};
 use crate::ports::{Ports, Ready};
 use crate::upkeeps::Tally;
 use rest_machine::Settling;
@@ -30,18 +30,17 @@ fn enter<M: Settling, P: Ports>(
     ports: &mut P,
 )
     requires slots { length connections.old ≡ slots }
-    ensures turned { (tally : Tally) → GoesOn (settling M.plain M.is_settled M.settled) (M.stands machine.old) (M.stands machine.new) connections.old connections.new Ready.Accept tally tally
+    ensures turned { (tally : Tally) → GoesOn (behind_doors M.plain M.through M.is_settled M.settled) (M.stands machine.old) (M.stands machine.new) connections.old connections.new Ready.Accept tally tally
         (P.seen ports.old) (P.seen ports.new) }
     ensures slots { length connections.new ≡ length connections.old }
     ensures opening { M.opening machine.new ≡ M.opening machine.old }
 {
     match free_slot(connections) {
-        Some(slot) => match Connection::new(alloc) {
-            Ok(connection) => {
-                if ports.accept(slot) {
-                    put_connection(connections, slot, connection);
-                }
-            }
+        Some(slot) => match Room::new(alloc) {
+            Ok(room) => match ports.accept(slot) {
+                Some(door) => put_connection(connections, slot, Connection::new(door, room)),
+                None => {}
+            },
             Err(NoMemory) => ports.decline(),
         },
         None => {} // it waits until one ends
@@ -60,7 +59,7 @@ fn hear<M: Settling, P: Ports>(
 )
     requires slots { length connections.old ≡ slots }
     requires room { length buf.old ≡ piece }
-    ensures turned { GoesOn (settling M.plain M.is_settled M.settled) (M.stands machine.old) (M.stands machine.new) connections.old connections.new (Ready.Read slot) tally.old tally.new
+    ensures turned { GoesOn (behind_doors M.plain M.through M.is_settled M.settled) (M.stands machine.old) (M.stands machine.new) connections.old connections.new (Ready.Read slot) tally.old tally.new
         (P.seen ports.old) (P.seen ports.new) }
     ensures slots { length connections.new ≡ length connections.old }
     ensures room { length buf.new ≡ length buf.old }
@@ -82,7 +81,7 @@ fn hear<M: Settling, P: Ports>(
 
 /// Settles what the machine owes, if it owes anything.
 fn settle_owed<M: Settling>(machine: &mut M) -> Result<(), Failed>
-    ensures settled { OnOk result ((s : M.Plain) → M.stands machine.old s → Settles (settling M.plain M.is_settled M.settled) (M.stands machine.new) s) }
+    ensures settled { OnOk result ((s : M.Plain) → M.stands machine.old s → Settles (behind_doors M.plain M.through M.is_settled M.settled) (M.stands machine.new) s) }
     ensures same { OnErr result ((s : M.Plain) → M.stands machine.old s → M.stands machine.new s) }
     ensures cause { OnErr result (0 < M.faults machine.new) }
     ensures opening { M.opening machine.new ≡ M.opening machine.old }
@@ -105,7 +104,7 @@ fn tell<M: Settling, P: Ports>(
     tally: &mut Tally,
 ) -> bool
     requires slots { length connections.old ≡ slots }
-    ensures turned { result ≡ true → GoesOn (settling M.plain M.is_settled M.settled) (M.stands machine.old) (M.stands machine.new)
+    ensures turned { result ≡ true → GoesOn (behind_doors M.plain M.through M.is_settled M.settled) (M.stands machine.old) (M.stands machine.new)
         connections.old connections.new (Ready.Write slot) tally.old tally.new (P.seen ports.old) (P.seen ports.new) }
     ensures unsettled { result ≡ false → ((s : M.Plain) → M.stands machine.old s → M.stands machine.new s)
         × Waits (connection_at connections.old slot) × (ports.new ≡ ports.old) }
@@ -147,7 +146,7 @@ fn leave<M: Settling, P: Ports>(
 )
     requires slots { length connections.old ≡ slots }
     requires sure { (n : ℕ) → n < slots → M.plain.is_sure (n + 1, close) ≡ true }
-    ensures turned { (tally : Tally) → GoesOn (settling M.plain M.is_settled M.settled) (M.stands machine.old) (M.stands machine.new) connections.old connections.new (Ready.Close slot) tally tally
+    ensures turned { (tally : Tally) → GoesOn (behind_doors M.plain M.through M.is_settled M.settled) (M.stands machine.old) (M.stands machine.new) connections.old connections.new (Ready.Close slot) tally tally
         (P.seen ports.old) (P.seen ports.new) }
     ensures slots { length connections.new ≡ length connections.old }
     ensures opening { M.opening machine.new ≡ M.opening machine.old }
@@ -184,7 +183,7 @@ pub(crate) fn turn<M: Settling, P: Ports>(
     requires slots { length connections.old ≡ slots }
     requires room { length buf.old ≡ piece }
     requires sure { (n : ℕ) → n < slots → M.plain.is_sure (n + 1, close) ≡ true }
-    ensures turned { result ≡ Outcome.On → Turned (settling M.plain M.is_settled M.settled) (M.stands machine.old) (M.stands machine.new)
+    ensures turned { result ≡ Outcome.On → Turned (behind_doors M.plain M.through M.is_settled M.settled) (M.stands machine.old) (M.stands machine.new)
         connections.old connections.new tally.old tally.new (P.seen ports.old) (P.seen ports.new) }
     ensures stopped { result ≡ Outcome.Stopped → (machine.new ≡ machine.old) × (connections.new ≡ connections.old) × (tally.new ≡ tally.old)
         × Tells (P.seen ports.old) (P.seen ports.new) (Seen.Offered Ready.Stop ∷ []) }

@@ -1,6 +1,7 @@
 //! A machine with the log of what lasted of its requests.
 
 ghost use Rattle.std.specs.Prelude.{◌≡◌, ◌+◌, ◌<◌, ◌≤◌, ◌++◌, [], ◌∷◌, ℕ, List, length, true, false, refl, IsOk, OnOk, OnErr};
+ghost use Rattle.std.proofs.Common.{inl};
 ghost use Rattle.rest_machine.specs.Rests.{most_lasting};
 ghost use Rattle.disk_store.specs.Disks.{AsHonest};
 ghost use Rattle.log_groups.specs.Items.{longest_body};
@@ -151,6 +152,8 @@ impl<M: Resting, K: BytewiseDisk> Settling for Logged<M, K> {
 
     ghost plain = { logged M.Resting };
 
+    ghost through = { λ _. logged M.Resting };
+
     ghost stands = { λ l kept. (marks : List Mark) × Stands M.Resting K.Disk l kept marks };
 
     ghost opening = { λ l. record { state = M.opening l.machine; things = []; settles = [] } };
@@ -165,6 +168,17 @@ impl<M: Resting, K: BytewiseDisk> Settling for Logged<M, K> {
         self.answer(actor, request, out)
     }
 
+    fn act_through(
+        &mut self,
+        door: u8,
+        actor: u16,
+        request: &[u8],
+        out: &mut ReplyBuf,
+    ) -> Result<(), NoMemory> {
+        let _ = door;
+        self.act(actor, request, out)
+    }
+
     fn owes(&self) -> bool {
         self.may_owe()
     }
@@ -174,4 +188,6 @@ impl<M: Resting, K: BytewiseDisk> Settling for Logged<M, K> {
     }
 
     ghost settles = { λ kept. (kept.settles, refl) };
+
+    ghost guards = { λ door kept e. inl refl };
 }

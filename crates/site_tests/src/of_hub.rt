@@ -1,6 +1,7 @@
 //! A hub over a machine that settles what it answered, until it can't.
 
-ghost use Rattle.std.specs.Prelude.{◌≡◌, [], ◌∷◌, Bool, true, false, refl};
+ghost use Rattle.std.specs.Prelude.{◌≡◌, Bool, false, refl};
+ghost use Rattle.std.proofs.Common.{inl};
 
 use crate::talks::copied;
 use hub::{End, MemoryPorts, Move, Seen, serve};
@@ -19,9 +20,13 @@ struct Owing {
 }
 
 impl Settling for Owing {
+    ghost use Rattle.site_tests.specs.Owing.{owing};
+
     ghost Plain = { Bool };
 
-    ghost plain = { record { step = λ s e. true; reply = λ s e. 7 ∷ []; is_sure = λ e. true } };
+    ghost plain = { owing };
+
+    ghost through = { λ _. owing };
 
     ghost stands = { λ m s. m.owed ≡ s };
 
@@ -42,6 +47,17 @@ impl Settling for Owing {
         Ok(())
     }
 
+    fn act_through(
+        &mut self,
+        door: u8,
+        actor: u16,
+        request: &[u8],
+        out: &mut ReplyBuf,
+    ) -> Result<(), NoMemory> {
+        let _ = door;
+        self.act(actor, request, out)
+    }
+
     fn owes(&self) -> bool {
         self.owed
     }
@@ -57,6 +73,66 @@ impl Settling for Owing {
     }
 
     ghost settles = { λ s. refl };
+
+    ghost guards = { λ door s e. inl refl };
+}
+
+/// The same behind doors: what comes through door 0 is let in, and 9 is replied to everything else.
+#[derive(Drop)]
+struct Guarded {
+    owing: Owing,
+}
+
+impl Settling for Guarded {
+    ghost use Rattle.hub.specs.Doors.{seen_through, seen_guards};
+    ghost use Rattle.site_tests.specs.Owing.{owing, first_door};
+
+    ghost Plain = { Bool };
+
+    ghost plain = { owing };
+
+    ghost through = { seen_through owing first_door };
+
+    ghost stands = { λ m s. m.owing.owed ≡ s };
+
+    ghost opening = { λ m. false };
+
+    ghost is_settled = { λ s. s ≡ false };
+
+    ghost settled = { λ s. false };
+
+    ghost faults = { λ m. m.owing.faults };
+
+    fn act(&mut self, actor: u16, request: &[u8], out: &mut ReplyBuf) -> Result<(), NoMemory> {
+        self.owing.act(actor, request, out)
+    }
+
+    fn act_through(
+        &mut self,
+        door: u8,
+        actor: u16,
+        request: &[u8],
+        out: &mut ReplyBuf,
+    ) -> Result<(), NoMemory> {
+        if door == 0 {
+            return self.owing.act(actor, request, out);
+        }
+        out.clear();
+        out.push_byte(9);
+        Ok(())
+    }
+
+    fn owes(&self) -> bool {
+        self.owing.owes()
+    }
+
+    fn settle(&mut self) -> Result<(), Failed> {
+        self.owing.settle()
+    }
+
+    ghost settles = { λ s. refl };
+
+    ghost guards = { seen_guards owing first_door };
 }
 
 /// A connection in a slot asks for something.
@@ -66,14 +142,15 @@ fn asks(rt: &impl Abort, alloc: Global, slot: usize) -> Move {
 }
 
 /// What an edge does by its letter: connection `a` or `b` asks, or is told under the same large letter; with another one a
-/// connection comes.
+/// connection comes, through door 1 where it is `-`.
 fn move_of(rt: &impl Abort, alloc: Global, letter: u8) -> Move {
     match letter {
         b'a' => asks(rt, alloc, 0),
         b'b' => asks(rt, alloc, 1),
         b'A' => Move::Write { slot: 0, most: 100 },
         b'B' => Move::Write { slot: 1, most: 100 },
-        _ => Move::Accept { comes: true },
+        b'-' => Move::Accept { comes: Some(1) },
+        _ => Move::Accept { comes: Some(0) },
     }
 }
 
@@ -126,4 +203,34 @@ fn what_was_answered_is_settled_before_it_is_told(rt: HostRuntime) {
     for (letters, end, settles, counts) in rows {
         assert!(rt; came_of(&rt, rt.alloc(), letters) == (end, settles, counts));
     }
+}
+
+/// Whether this byte was written to the connection in the slot, in a frame.
+fn is_told(calls: &[Seen], place: usize, reply: u8) -> bool {
+    let frame = [0, 0, 0, 1, reply];
+    calls.iter().any(|call| {
+        matches!(call, Seen::WroteTo { slot, bytes, .. } if *slot == place && bytes.as_slice() == frame.as_slice())
+    })
+}
+
+#[test]
+fn what_a_door_doesnt_let_in_is_answered_there(rt: HostRuntime) {
+    let owing = Owing {
+        owed: false,
+        settles: 0,
+        faults: 0,
+    };
+    let mut machine = Guarded { owing };
+    // what only the second door's connection asks changes nothing, so nothing is to be settled
+    let mut ports = edge_of(&rt, rt.alloc(), b"+-bB");
+    let end = serve(rt.alloc(), &mut machine, &mut ports, None).expect(&rt, "memory");
+    assert!(rt; end == End::Stopped && machine.owing.settles == 0);
+    assert!(rt; is_told(ports.seen().expect(&rt, "memory"), 1, 9));
+    drop(ports);
+    let mut ports = edge_of(&rt, rt.alloc(), b"+-abAB");
+    let end = serve(rt.alloc(), &mut machine, &mut ports, None).expect(&rt, "memory");
+    assert!(rt; end == End::Stopped && machine.owing.settles == 1);
+    assert!(rt; is_told(ports.seen().expect(&rt, "memory"), 0, 7));
+    assert!(rt; is_told(ports.seen().expect(&rt, "memory"), 1, 9));
+    drop(ports);
 }

@@ -151,7 +151,7 @@ const TOLD: &str = concat!(
 fn moves(rt: &impl Abort, alloc: Global) -> Vec<Move> {
     let asked = ByteList::from_vec(bytes_of(rt, alloc, ASKED));
     let moves = [
-        Move::Accept { comes: true },
+        Move::Accept { comes: Some(0) },
         Move::Read {
             slot: 0,
             bytes: asked,
@@ -196,16 +196,16 @@ fn a_site_is_served_at_its_place(rt: HostRuntime) {
 fn comers(rt: &impl Abort, alloc: Global, count: u16) -> Vec<Move> {
     let mut moves = Vec::new(alloc);
     for _ in 0..count {
-        moves.push(Move::Accept { comes: true }).expect(rt, "room");
+        moves
+            .push(Move::Accept { comes: Some(0) })
+            .expect(rt, "room");
     }
     moves
 }
 
 /// How many connections came in, and how many were turned away.
 fn come_and_go(calls: &[Seen]) -> (usize, usize) {
-    let came = calls
-        .iter()
-        .filter(|call| matches!(call, Seen::Accepted { came: true, .. }));
+    let came = calls.iter().filter(|call| matches!(call, Seen::Accepted { came: Some(_), .. }));
     let declined = calls.iter().filter(|call| matches!(call, Seen::Declined));
     (came.count(), declined.count())
 }

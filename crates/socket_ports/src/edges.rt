@@ -14,6 +14,9 @@ use std::time::Duration;
 /// The name of the door among the events of the system. The connections have their slots' numbers.
 const DOOR: usize = SLOTS;
 
+/// The number of the door, as the hub is told it.
+const ONLY_DOOR: u8 = 0;
+
 /// So many events are taken at once: one for each connection, and one for the door.
 const MOST_EVENTS: usize = SLOTS + 1;
 
@@ -174,27 +177,27 @@ impl SocketPorts {
         Ok(())
     }
 
-    /// Brings a connection into the slot, if one waits.
-    fn admit(&mut self, slot: usize) -> bool {
+    /// Brings a connection into the slot, if one waits, and answers the number of its door.
+    fn admit(&mut self, slot: usize) -> Option<u8> {
         let stream = match self.door.accept() {
             Ok(stream) => stream,
             Err(error) => {
                 // the one that was next is gone, and others may wait behind it
                 self.knocked = is_passing(&error);
-                return false;
+                return None;
             }
         };
         self.knocked = true;
         let Ok(plug) = Plug::new(stream, self.poll.registry(), Token(slot)) else {
-            return false;
+            return None;
         };
         match self.plugs.get_mut(slot) {
             Some(place) => *place = Some(plug),
-            None => return false,
+            None => return None,
         }
         self.open = self.open.saturating_add(1);
         self.high = self.high.max(slot.saturating_add(1));
-        true
+        Some(ONLY_DOOR)
     }
 }
 
@@ -223,7 +226,7 @@ impl Ports for SocketPorts {
         Ready::Stop
     }
 
-    fn accept(&mut self, slot: usize) -> bool {
+    fn accept(&mut self, slot: usize) -> Option<u8> {
         self.admit(slot)
     }
 

@@ -15,7 +15,7 @@ loop-cutter-preserved g c =
     let left : c.next.follows.lender-at-none ≡ drop (4 + length c.in-Frame.body.now) c.loop-cutter.cutter =
     subst (λ r. Leaves c.loop-cutter.cutter r c.next.follows.lender-at-none) c.in-Frame.is c.next.follows.holds-at-none in
     record {
-      served = serves_body g.M.Settling.plain (g.M.Settling.stands c.args.machine.now) (g.M.Settling.stands c.loop-cutter.machine)
+      served = serves_body (g.M.Settling.through c.args.door) (g.M.Settling.stands c.args.machine.now) (g.M.Settling.stands c.loop-cutter.machine)
           (g.M.Settling.stands c.answer_body.new.machine) c.args.actor
           c.args.cutter.now c.loop-cutter.cutter c.next.follows.lender-at-none c.args.waiting.now c.loop-cutter.waiting c.answer_body.new.waiting
           c.in-Frame.body.now c.args.tally.now c.loop-cutter.tally c.answer_body.new.tally

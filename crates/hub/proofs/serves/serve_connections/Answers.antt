@@ -1,7 +1,7 @@
 use Rattle.std.proofs.Common.{refl, sym, subst, ◌∙◌, arith, map, rules}
 use Rattle.std.specs.Option.{option_map}
 use Rattle.hub.specs.declared.serves.End.TheVariants.{Stopped}
-use Rattle.hub.specs.Settlings.{settling}
+use Rattle.hub.specs.Settlings.{behind_doors}
 use Rattle.hub.specs.Runs.{IsRun}
 use Rattle.hub.specs.Upkeeps.{due_by, rule_of}
 use Rattle.hub.proofs.Leading.{led_start, led_more, led_kept, run_stopped, run_unsettled, run_spent}
@@ -9,7 +9,7 @@ use Rattle.hub.proofs.serves.serve_connections.Goals as goal
 
 pub loop-turns-init : goal.loop-turns-init
 loop-turns-init g c = record {
-  led = λ s stands. led_start (settling g.M.Settling.plain g.M.Settling.is_settled g.M.Settling.settled) (option_map rule_of c.args.upkeep) (g.M.Settling.stands c.args.machine.now) s c.args.connections.now
+  led = λ s stands. led_start (behind_doors g.M.Settling.plain g.M.Settling.through g.M.Settling.is_settled g.M.Settling.settled) (option_map rule_of c.args.upkeep) (g.M.Settling.stands c.args.machine.now) s c.args.connections.now
       c.whole-tally.result (g.P.Ports.seen c.args.ports.now) stands c.requires.free c.whole-tally.ensures;
   slots = c.requires.slots;
   room = c.requires.room;
@@ -18,7 +18,7 @@ loop-turns-init g c = record {
 
 pub loop-turns-preserved-in-Some : goal.loop-turns-preserved-in-Some
 loop-turns-preserved-in-Some g c = record {
-  led = λ s stands. led_kept (settling g.M.Settling.plain g.M.Settling.is_settled g.M.Settling.settled) (option_map rule_of c.args.upkeep) (g.M.Settling.stands c.loop-turns.machine)
+  led = λ s stands. led_kept (behind_doors g.M.Settling.plain g.M.Settling.through g.M.Settling.is_settled g.M.Settling.settled) (option_map rule_of c.args.upkeep) (g.M.Settling.stands c.loop-turns.machine)
       (g.M.Settling.stands c.keep_up.new.machine) s c.loop-turns.connections c.loop-turns.tally c.whole-tally-in-Some.result
       (g.P.Ports.seen c.args.ports.now) (g.P.Ports.seen c.loop-turns.ports) c.loop-turns.turns (map (λ r. r.now) c.in-Some.requests.now)
       (c.loop-turns.invariant.led s stands) (sym c.in-Some.ensures) c.whole-tally-in-Some.ensures c.keep_up.ensures.asked;
@@ -29,7 +29,7 @@ loop-turns-preserved-in-Some g c = record {
 
 pub loop-turns-preserved : goal.loop-turns-preserved
 loop-turns-preserved g c = record {
-  led = λ s stands. led_more (settling g.M.Settling.plain g.M.Settling.is_settled g.M.Settling.settled) (option_map rule_of c.args.upkeep) (g.M.Settling.stands c.loop-turns.machine)
+  led = λ s stands. led_more (behind_doors g.M.Settling.plain g.M.Settling.through g.M.Settling.is_settled g.M.Settling.settled) (option_map rule_of c.args.upkeep) (g.M.Settling.stands c.loop-turns.machine)
       (g.M.Settling.stands c.turn.new.machine) s c.loop-turns.connections c.turn.new.connections c.loop-turns.tally c.turn.new.tally
       (g.P.Ports.seen c.args.ports.now) (g.P.Ports.seen c.loop-turns.ports) (g.P.Ports.seen c.turn.new.ports) c.loop-turns.turns
       (c.loop-turns.invariant.led s stands) (sym c.in-None.ensures) (c.turn.ensures.turned (search rules));
@@ -41,10 +41,10 @@ loop-turns-preserved g c = record {
 pub returns-in-Stopped-clause-served : goal.returns-in-Stopped-clause-served
 returns-in-Stopped-clause-served g c = λ s stands.
     let stopped = c.turn.ensures.stopped (search rules) in
-    subst (λ m. IsRun (settling g.M.Settling.plain g.M.Settling.is_settled g.M.Settling.settled) (option_map rule_of c.args.upkeep) (g.M.Settling.stands m) s Stopped (g.P.Ports.seen c.args.ports.now)
+    subst (λ m. IsRun (behind_doors g.M.Settling.plain g.M.Settling.through g.M.Settling.is_settled g.M.Settling.settled) (option_map rule_of c.args.upkeep) (g.M.Settling.stands m) s Stopped (g.P.Ports.seen c.args.ports.now)
     (g.P.Ports.seen c.turn.new.ports))
     (sym stopped.0)
-    (run_stopped (settling g.M.Settling.plain g.M.Settling.is_settled g.M.Settling.settled) (option_map rule_of c.args.upkeep) (g.M.Settling.stands c.loop-turns.machine) s c.loop-turns.connections
+    (run_stopped (behind_doors g.M.Settling.plain g.M.Settling.through g.M.Settling.is_settled g.M.Settling.settled) (option_map rule_of c.args.upkeep) (g.M.Settling.stands c.loop-turns.machine) s c.loop-turns.connections
     c.loop-turns.tally
     (g.P.Ports.seen c.args.ports.now) (g.P.Ports.seen c.loop-turns.ports) (g.P.Ports.seen c.turn.new.ports) c.loop-turns.turns
     (c.loop-turns.invariant.led s stands)
@@ -52,12 +52,12 @@ returns-in-Stopped-clause-served g c = λ s stands.
 
 pub returns-in-Unsettled-clause-served : goal.returns-in-Unsettled-clause-served
 returns-in-Unsettled-clause-served g c = λ s stands.
-    run_unsettled (settling g.M.Settling.plain g.M.Settling.is_settled g.M.Settling.settled) (option_map rule_of c.args.upkeep) (g.M.Settling.stands c.loop-turns.machine)
+    run_unsettled (behind_doors g.M.Settling.plain g.M.Settling.through g.M.Settling.is_settled g.M.Settling.settled) (option_map rule_of c.args.upkeep) (g.M.Settling.stands c.loop-turns.machine)
     (g.M.Settling.stands c.turn.new.machine) s c.loop-turns.connections c.loop-turns.tally (g.P.Ports.seen c.args.ports.now) (g.P.Ports.seen c.loop-turns.ports)
     (g.P.Ports.seen c.turn.new.ports) c.loop-turns.turns (c.loop-turns.invariant.led s stands)
     (sym {b = due_by c.loop-turns.tally (option_map rule_of c.args.upkeep)} c.in-None.ensures) (c.turn.ensures.unsettled (search rules))
 
 pub returns-clause-served : goal.returns-clause-served
 returns-clause-served g c = λ s stands.
-    run_spent (settling g.M.Settling.plain g.M.Settling.is_settled g.M.Settling.settled) (option_map rule_of c.args.upkeep) (g.M.Settling.stands c.loop-turns.machine) s c.loop-turns.connections c.loop-turns.tally
+    run_spent (behind_doors g.M.Settling.plain g.M.Settling.through g.M.Settling.is_settled g.M.Settling.settled) (option_map rule_of c.args.upkeep) (g.M.Settling.stands c.loop-turns.machine) s c.loop-turns.connections c.loop-turns.tally
     (g.P.Ports.seen c.args.ports.now) (g.P.Ports.seen c.loop-turns.ports) c.loop-turns.turns (c.loop-turns.invariant.led s stands) (omega arith)

@@ -1,30 +1,30 @@
 use Rattle.std.proofs.Common.{refl, arith}
-use Rattle.hub.specs.Settlings.{settling}
+use Rattle.hub.specs.Settlings.{behind_doors}
 use Rattle.hub.specs.declared.ports.Ready.TheVariants.{Accept}
 use Rattle.hub.proofs.Turning.{opened, missed, turned_away, rested, full_rests}
 use Rattle.hub.proofs.turns.enter.Goals as goal
 
-pub returns-then-accept-clause-turned : goal.returns-then-accept-clause-turned
-returns-then-accept-clause-turned g c =
-    λ tally. opened (settling g.M.Settling.plain g.M.Settling.is_settled g.M.Settling.settled) (g.M.Settling.stands c.args.machine.now) (g.M.Settling.stands c.args.machine.now) c.args.connections.now c.put_connection.new.connections
-    c.in-Some.slot c.in-Ok.connection tally (g.P.Ports.seen c.args.ports.now) (g.P.Ports.seen c.accept.new.self)
-    (λ s f. f) (omega (arith, c.in-Some.ensures.free.0, c.requires.slots)) c.in-Some.ensures.free.1 c.put_connection.ensures.there c.in-Ok.ensures
-    c.put_connection.ensures.others c.if-accept.ensures.told
+pub returns-in-Some-accept-clause-turned : goal.returns-in-Some-accept-clause-turned
+returns-in-Some-accept-clause-turned g c =
+    λ tally. opened (behind_doors g.M.Settling.plain g.M.Settling.through g.M.Settling.is_settled g.M.Settling.settled) (g.M.Settling.stands c.args.machine.now) (g.M.Settling.stands c.args.machine.now) c.args.connections.now c.put_connection.new.connections
+    c.in-Some.slot c.in-Some-accept.door c.new-in-Some-accept.result tally (g.P.Ports.seen c.args.ports.now) (g.P.Ports.seen c.accept.new.self)
+    (λ s f. f) (omega (arith, c.in-Some.ensures.free.0, c.requires.slots)) c.in-Some.ensures.free.1 c.put_connection.ensures.there c.new-in-Some-accept.ensures
+    c.put_connection.ensures.others c.in-Some-accept.ensures.told
 
-pub returns-else-accept-clause-turned : goal.returns-else-accept-clause-turned
-returns-else-accept-clause-turned g c =
-    λ tally. missed (settling g.M.Settling.plain g.M.Settling.is_settled g.M.Settling.settled) (g.M.Settling.stands c.args.machine.now) (g.M.Settling.stands c.args.machine.now) c.args.connections.now c.args.connections.now
+pub returns-in-None-accept-clause-turned : goal.returns-in-None-accept-clause-turned
+returns-in-None-accept-clause-turned g c =
+    λ tally. missed (behind_doors g.M.Settling.plain g.M.Settling.through g.M.Settling.is_settled g.M.Settling.settled) (g.M.Settling.stands c.args.machine.now) (g.M.Settling.stands c.args.machine.now) c.args.connections.now c.args.connections.now
     c.in-Some.slot tally (g.P.Ports.seen c.args.ports.now) (g.P.Ports.seen c.accept.new.self)
-    (λ s f. f) refl (omega (arith, c.in-Some.ensures.free.0, c.requires.slots)) c.in-Some.ensures.free.1 c.if-accept.ensures.told
+    (λ s f. f) refl (omega (arith, c.in-Some.ensures.free.0, c.requires.slots)) c.in-Some.ensures.free.1 c.in-None-accept.ensures.told
 
 pub returns-in-Err-clause-turned : goal.returns-in-Err-clause-turned
 returns-in-Err-clause-turned g c =
-    λ tally. turned_away (settling g.M.Settling.plain g.M.Settling.is_settled g.M.Settling.settled) (g.M.Settling.stands c.args.machine.now) (g.M.Settling.stands c.args.machine.now) c.args.connections.now
+    λ tally. turned_away (behind_doors g.M.Settling.plain g.M.Settling.through g.M.Settling.is_settled g.M.Settling.settled) (g.M.Settling.stands c.args.machine.now) (g.M.Settling.stands c.args.machine.now) c.args.connections.now
     c.args.connections.now c.in-Some.slot tally (g.P.Ports.seen c.args.ports.now) (g.P.Ports.seen c.decline.new.self)
     (λ s f. f) refl (omega (arith, c.in-Some.ensures.free.0, c.requires.slots)) c.in-Some.ensures.free.1 c.decline.ensures.told
 
 pub returns-in-None-clause-turned : goal.returns-in-None-clause-turned
 returns-in-None-clause-turned g c =
-    λ tally. rested (settling g.M.Settling.plain g.M.Settling.is_settled g.M.Settling.settled) (g.M.Settling.stands c.args.machine.now) (g.M.Settling.stands c.args.machine.now) c.args.connections.now c.args.connections.now
+    λ tally. rested (behind_doors g.M.Settling.plain g.M.Settling.through g.M.Settling.is_settled g.M.Settling.settled) (g.M.Settling.stands c.args.machine.now) (g.M.Settling.stands c.args.machine.now) c.args.connections.now c.args.connections.now
     Accept tally (g.P.Ports.seen c.args.ports.now) (g.P.Ports.seen c.args.ports.now)
     (λ s f. f) (λ n. refl) refl (λ turns fits. full_rests c.args.connections.now turns fits c.requires.slots c.in-None.ensures.full)

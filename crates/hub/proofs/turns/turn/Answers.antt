@@ -1,4 +1,4 @@
-use Rattle.hub.specs.Settlings.{settling}
+use Rattle.hub.specs.Settlings.{behind_doors}
 use Rattle.std.proofs.Common.{[], ◌∷◌, subst, sym}
 use Rattle.hub.specs.Telling.{Tells}
 use Rattle.hub.specs.declared.ports.Ready.TheVariants.{Accept, Read, Write, Close}
@@ -8,20 +8,20 @@ use Rattle.hub.proofs.turns.turn.Goals as goal
 
 pub returns-in-Accept-clause-turned : goal.returns-in-Accept-clause-turned
 returns-in-Accept-clause-turned g c = λ on.
-    turned (settling g.M.Settling.plain g.M.Settling.is_settled g.M.Settling.settled) (g.M.Settling.stands c.args.machine.now) (g.M.Settling.stands c.enter.new.machine) c.args.connections.now c.enter.new.connections Accept
+    turned (behind_doors g.M.Settling.plain g.M.Settling.through g.M.Settling.is_settled g.M.Settling.settled) (g.M.Settling.stands c.args.machine.now) (g.M.Settling.stands c.enter.new.machine) c.args.connections.now c.enter.new.connections Accept
     c.args.tally.now c.args.tally.now (g.P.Ports.seen c.args.ports.now) (g.P.Ports.seen c.ready.new.self) (g.P.Ports.seen c.enter.new.ports)
     c.in-Accept.ensures.told (c.enter.ensures.turned c.args.tally.now)
 
 pub returns-in-Read-clause-turned : goal.returns-in-Read-clause-turned
 returns-in-Read-clause-turned g c = λ on.
-    turned (settling g.M.Settling.plain g.M.Settling.is_settled g.M.Settling.settled) (g.M.Settling.stands c.args.machine.now) (g.M.Settling.stands c.hear.new.machine) c.args.connections.now c.hear.new.connections
+    turned (behind_doors g.M.Settling.plain g.M.Settling.through g.M.Settling.is_settled g.M.Settling.settled) (g.M.Settling.stands c.args.machine.now) (g.M.Settling.stands c.hear.new.machine) c.args.connections.now c.hear.new.connections
     (Read c.in-Read.slot) c.args.tally.now c.hear.new.tally (g.P.Ports.seen c.args.ports.now) (g.P.Ports.seen c.ready.new.self)
     (g.P.Ports.seen c.hear.new.ports)
     c.in-Read.ensures.told c.hear.ensures.turned
 
 pub returns-then-tell-clause-turned : goal.returns-then-tell-clause-turned
 returns-then-tell-clause-turned g c = λ on.
-    turned (settling g.M.Settling.plain g.M.Settling.is_settled g.M.Settling.settled) (g.M.Settling.stands c.args.machine.now) (g.M.Settling.stands c.tell.new.machine) c.args.connections.now c.tell.new.connections
+    turned (behind_doors g.M.Settling.plain g.M.Settling.through g.M.Settling.is_settled g.M.Settling.settled) (g.M.Settling.stands c.args.machine.now) (g.M.Settling.stands c.tell.new.machine) c.args.connections.now c.tell.new.connections
     (Write c.in-Write.slot) c.args.tally.now c.tell.new.tally (g.P.Ports.seen c.args.ports.now) (g.P.Ports.seen c.ready.new.self)
     (g.P.Ports.seen c.tell.new.ports)
     c.in-Write.ensures.told (c.tell.ensures.turned c.if-tell.true)
@@ -41,7 +41,7 @@ returns-else-tell-clause-unsettled g c = λ is.
 
 pub returns-in-Close-clause-turned : goal.returns-in-Close-clause-turned
 returns-in-Close-clause-turned g c = λ on.
-    turned (settling g.M.Settling.plain g.M.Settling.is_settled g.M.Settling.settled) (g.M.Settling.stands c.args.machine.now) (g.M.Settling.stands c.leave.new.machine) c.args.connections.now c.leave.new.connections
+    turned (behind_doors g.M.Settling.plain g.M.Settling.through g.M.Settling.is_settled g.M.Settling.settled) (g.M.Settling.stands c.args.machine.now) (g.M.Settling.stands c.leave.new.machine) c.args.connections.now c.leave.new.connections
     (Close c.in-Close.slot) c.args.tally.now c.args.tally.now (g.P.Ports.seen c.args.ports.now) (g.P.Ports.seen c.ready.new.self)
     (g.P.Ports.seen c.leave.new.ports)
     c.in-Close.ensures.told (c.leave.ensures.turned c.args.tally.now)

@@ -1,0 +1,2 @@
+-- What a machine of a test is.
+pub mod Owing
