@@ -43,7 +43,7 @@ pub trait Resting: Drop {
         ensures lasts { OnOk result ((s : Plain) → stands self.old s → log.new.items ≡ log.old.items ++ lasting s (actor, request.now)) }
         ensures nothing { OnErr result (log.new.items ≡ log.old.items) }
         ensures few { vec_len log.new ≤ vec_len log.old + most_lasting }
-        ensures capacity { vec_capacity log.new ≡ vec_capacity log.old }
+        ensures capacity { vec_capacity log.old ≤ vec_capacity log.new }
         ensures opening { opening self.new ≡ opening self.old };
 
     /// Takes back all that stands in the bytes, one thing behind another. `false` means that they can't be taken back: they spell
