@@ -25,7 +25,7 @@ use tardis_base::Slot;
 /// It goes once over the states that are kept before the first floor, from the newest to the oldest, until `n` are collected.
 /// For each that it passes the cost grows with the number of its children, and with that of the sites, for each of which an
 /// ancestry is asked; for each that is collected also by what `RecordStore::collect` and `CeilingBook::rename` cost.
-pub fn tidy(store: &mut RecordStore, book: &mut CeilingBook, n: u16) -> u32
+pub fn tidy(store: &mut RecordStore, book: &mut CeilingBook, n: u32) -> u32
     requires { StandForHistory store.old book.old }
     ensures tidied { (rs : List Record) (ks : List StateId) → StandTogether store.old book.old rs ks
         → StandTogether store.new book.new rs (tidied n rs (floors_of book.old) ks) }
@@ -40,7 +40,7 @@ pub fn tidy(store: &mut RecordStore, book: &mut CeilingBook, n: u16) -> u32
 {
     let mut count = 0;
     for place in (0..first_floor(store.dag(), book)).rev() {
-        if count == n as u32 {
+        if count == n {
             return count;
         }
         let slot = store.dag().kept_slots()[place];

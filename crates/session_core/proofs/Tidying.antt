@@ -7,7 +7,6 @@ use Rattle.std.proofs.lemmas.Bool.{and_parts, and_from, or_left, or_right, both_
 use Rattle.tardis_base.specs.declared.ids.StateId.{StateId}
 use Rattle.tardis_base.specs.declared.ids.Slot.{Slot}
 use Rattle.tardis_base.specs.declared.records.Limits.{Limits}
-use Rattle.tardis_base.specs.declared.replies.Reply.TheVariants.{Tidied}
 use Rattle.tardis_base.specs.Ids.{is_among}
 use Rattle.plain_dag.specs.Above.{is_above}
 use Rattle.plain_dag.specs.Begin.{is_admitted}
@@ -27,13 +26,14 @@ use Rattle.path_compress.specs.Together.{are_under_floors, StandTogether, KeepsN
 use Rattle.plain_site.specs.Site.{Site, own_floor, read_states}
 use Rattle.plain_site.specs.Sound.{IsSound}
 use Rattle.plain_site.specs.FloorSteps.{tidy}
+use Rattle.plain_site.specs.Rest.{collected_by}
 use Rattle.plain_site.proofs.SoundTidies.{tidy-keeps}
 use Rattle.plain_site.proofs.CollectedStates.{collected-are-never-admitted}
 use Rattle.session_core.specs.declared.Parts.TheInside.{Inside}
 use Rattle.session_core.specs.Core.{Core}
 use Rattle.session_core.specs.Held.{seen, IsHeld}
 use Rattle.session_core.specs.Stands.{txn_of, CoreStands}
-use Rattle.session_core.specs.Gives.{IsGiven}
+use Rattle.session_core.specs.Machine.{SiteStands}
 use Rattle.session_core.specs.Txns.{has_slots, IsNamed}
 use Rattle.session_core.proofs.Standing.{kept-for}
 
@@ -128,22 +128,25 @@ module _ (core : Core) (store : Store) (book : Book) (site : Site) (n : ℕ) (st
   pub tidy-gives : (count : ℕ) → KeepsNumbers core.store.table store.table → KeepsPromises core.book book →
       StandTogether store book site.dag (tidied n site.dag (floors_of core.book) site.collected) →
       count ≡ length (tidied n site.dag (floors_of core.book) site.collected) - length site.collected →
-      IsGiven (CoreStands (record core { store = store; book = book })) (tidy site n) (Tidied count)
+      SiteStands (record core { store = store; book = book }) after × (count ≡ collected_by n site)
   tidy-gives count numbers promises together told =
       let now = subst (StandTogether store book site.dag) same-collected together in (
-        record {
-          store = now.history;
-          limits = numbers.limits ∙ stands.limits;
-          own = promises.own ∙ stands.own;
-          max_sessions = promises.max_sessions ∙ stands.max_sessions;
-          sessions = promises.sessions ∙ stands.sessions;
-          floors = promises.floors ∙ stands.floors;
-          placed = now.placed;
-          txns = stands.txns;
-          slots = txns-named;
-          waiting = stands.waiting;
-        },
-        ap Tidied (told ∙ ap (λ (zs : List StateId). length zs - length site.collected) same-collected),
+        (
+          record {
+            store = now.history;
+            limits = numbers.limits ∙ stands.limits;
+            own = promises.own ∙ stands.own;
+            max_sessions = promises.max_sessions ∙ stands.max_sessions;
+            sessions = promises.sessions ∙ stands.sessions;
+            floors = promises.floors ∙ stands.floors;
+            placed = now.placed;
+            txns = stands.txns;
+            slots = txns-named;
+            waiting = stands.waiting;
+          },
+          tidy-keeps site n sound,
+        ),
+        told ∙ ap (λ (zs : List StateId). length zs - length site.collected) same-collected,
       )
 
 -- and what always holds of the memory holds

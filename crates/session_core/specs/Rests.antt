@@ -13,7 +13,7 @@ use Rattle.plain_site.specs.Site.{Site}
 use Rattle.plain_site.specs.Answers.{refuse_found}
 use Rattle.plain_site.specs.Exchange.{judgements}
 use Rattle.plain_site.specs.Sound.{IsSound}
-use Rattle.plain_site.specs.Rest.{Lasting, nameless, with_lasting, fits}
+use Rattle.plain_site.specs.Rest.{Lasting, Collection, nameless, with_lasting, fits, collected_by}
 use Rattle.session_core.specs.Core.{Core}
 use Rattle.session_core.specs.Stands.{CoreStands}
 use Rattle.session_core.specs.declared.stops.Stop.{Stop}
@@ -33,6 +33,10 @@ TakenBy new l site (Err fault) = SiteStands new site
 -- so it is for each site that it stood for
 abbrev pub TakesBack : Core → Core → Lasting → Result Bool OutOfMemory → Type 0
 TakesBack old new l result = (site : Site) → SiteStands old site → TakenBy new l site result
+
+-- so many states were to be collected: as many of them were as are there to be collected, and that many were told
+abbrev pub Collects : Core → Core → ℕ → ℕ → Type 0
+Collects old new count told = (site : Site) → SiteStands old site → SiteStands new (with_lasting (Collection count) site) × (told ≡ collected_by count site)
 
 -- where it fits, the site stays sound with it
 abbrev pub KeepsSound : Core → Lasting → Type 0

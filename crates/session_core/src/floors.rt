@@ -9,6 +9,7 @@ ghost use Rattle.plain_site.specs.FloorSteps.{raise as raise_of, raise_auto as r
 ghost use Rattle.session_core.specs.Stops.{refusal_of};
 ghost use Rattle.session_core.specs.Stands.{CoreStands, StandsForSite};
 ghost use Rattle.session_core.specs.Gives.{GivesOrStops, IsGiven, NeedsNoMemory};
+ghost use Rattle.session_core.specs.Rests.{Collects};
 
 use crate::Parts;
 use crate::stops::Stop;
@@ -95,14 +96,22 @@ impl Parts {
     }
 
     /// Collects up to `n` closed states, the collectable one that arrived last first, and tells how many. It takes no memory.
-    ///
-    /// The cost is that of `path_compress::tidy`.
     pub(crate) fn tidy(&mut self, n: u16) -> Reply
         requires { StandsForSite self.old }
         ensures { (site : Site) → CoreStands self.old site → IsSound site → IsGiven (CoreStands self.new) (tidy_of site n) result }
     {
-        let collected = path_compress::tidy(&mut self.store, &mut self.book, n);
+        let collected = self.collect(u32::from(n));
         Reply::Tidied { collected }
+    }
+
+    /// Collects up to `count` closed states, the collectable one that arrived last first, and answers how many.
+    ///
+    /// The cost is that of `path_compress::tidy`.
+    pub(crate) fn collect(&mut self, count: u32) -> u32
+        requires { StandsForSite self.old }
+        ensures { Collects self.old self.new count result }
+    {
+        path_compress::tidy(&mut self.store, &mut self.book, count)
     }
 }
 

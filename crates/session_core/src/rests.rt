@@ -11,7 +11,7 @@ ghost use Rattle.site_exchange.specs.Judgements.{reply_of, IsAddable};
 ghost use Rattle.plain_site.specs.Rest.{News};
 ghost use Rattle.session_core.specs.Stands.{StandsForSite};
 ghost use Rattle.session_core.specs.Machine.{opened_with};
-ghost use Rattle.session_core.specs.Rests.{is_quiet, TakesBack, KeepsSound, IsWelcomeTo, HasFitWrites, is_applied, TakenAs};
+ghost use Rattle.session_core.specs.Rests.{is_quiet, TakesBack, Collects, KeepsSound, IsWelcomeTo, HasFitWrites, is_applied, TakenAs};
 
 use crate::stops::Stop;
 use crate::{Parts, SiteCore};
@@ -140,5 +140,16 @@ impl SiteCore {
         ensures opening { opened_with self.new ≡ opened_with self.old }
     {
         self.parts.take_promise(promise)
+    }
+
+    /// Takes back that so many states were collected: collects up to `count` closed states, the collectable one that arrived last
+    /// first, and answers how many. Where these are fewer, no so many were there to be collected. It takes no memory.
+    ///
+    /// The cost is that of a Tidy.
+    pub fn collect(&mut self, count: u32) -> u32
+        ensures collected { Collects self.old self.new count result }
+        ensures opening { opened_with self.new ≡ opened_with self.old }
+    {
+        self.parts.collect(count)
     }
 }
