@@ -226,8 +226,9 @@ impl CeilingBook {
         None
     }
 
-    /// The slot of the automatic floor.
-    fn automatic_floor(&self, dag: &StateDag) -> Slot
+    /// The slot of the automatic floor: the state to which `raise_auto` would move the own floor, at the cost of the search
+    /// that it tells of.
+    pub fn automatic_floor(&self, dag: &StateDag) -> Slot
         requires slots { AreSlots self.now dag.now }
         ensures slot { IsTrue (is_slot dag.now result) }
         ensures floor { (rs : List Record) (ks : List StateId) → Stands dag.now rs ks → ArePlaced self.now dag.now rs ks

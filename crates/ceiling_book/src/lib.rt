@@ -22,10 +22,11 @@ mod parts;
 
 pub use consents::ConsentEnd;
 pub use floors::{CeilingBack, RaiseFault};
-use parts::{KnownFloor, OpenSession, Place};
+use parts::KnownFloor;
+pub use parts::{OpenSession, Place};
 use state_dag::StateDag;
 use std::alloc::{AllocFailed, Global};
-use std::collections::BTreeMap;
+use std::collections::{BTreeMap, btree_map};
 use std::error::Error;
 use std::fmt;
 use std::marker::Model;
@@ -173,6 +174,13 @@ impl CeilingBook {
         ensures within { result ≤ self.now.max_sessions }
     {
         self.sessions.len() as u16
+    }
+
+    /// The open sessions, by ascending numbers.
+    pub fn open_sessions(&self) -> btree_map::Iter<'_, u16, OpenSession>
+        ensures { result ≡ self.now.sessions }
+    {
+        self.sessions.iter()
     }
 
     pub fn close_session(&mut self, session: u16)

@@ -5,6 +5,7 @@
 
 ghost use Rattle.std.specs.Prelude.{◌≡◌, ◌≤◌, is_some, IsTrue, IfOk};
 ghost use Rattle.tardis_base.specs.Valid.{are_limits};
+ghost use Rattle.std.specs.Option.{option_copied};
 ghost use Rattle.plain_dag.specs.Entries.{entry_of};
 ghost use Rattle.record_store.specs.Stands.{StoreStands};
 ghost use Rattle.plain_site.specs.Site.{Site, opening};
@@ -28,6 +29,7 @@ mod stops;
 mod transactions;
 
 use ceiling_book::CeilingBook;
+use merge_txn::Txn;
 use record_store::RecordStore;
 use site_exchange::WaitRoom;
 use std::alloc::Global;
@@ -79,6 +81,13 @@ impl SiteCore {
         ensures stands { (site : Site) → CoreStands self.now site → StoreStands result.now site.dag site.collected }
     {
         &self.parts.store
+    }
+
+    /// The open transaction of the session, if it has one.
+    pub fn txn(&self, session: u16) -> Option<&Txn>
+        ensures { option_copied result ≡ entry_of session self.now.txns }
+    {
+        self.parts.txns.get(session)
     }
 
     /// Whether the session has an open transaction.
