@@ -35,6 +35,8 @@ from test_files import built
 LIVES, CLIENTS, LONGEST_RUN = 6, 8, 600
 #: of so many first moments so many images each are looked at
 FEW = 6
+#: a byte's place in this makes it all ones or all zeros
+EITHER = bytes(128) + b"\xff" * 128
 
 
 class Life:
@@ -134,16 +136,10 @@ def mixed_of(choose, kind, old, new):
     if kind == 3:
         return old[:at] + new[at:]
     if kind == 4:
-        parts = [choose.choice((old, new))[place:place + 512] for place in range(0, len(new), 512)]
-        return b"".join(parts)
-    if len(new) > 8192:
-        # (of a long one single bytes here and there)
-        mixed = bytearray(choose.choice((old, new)))
-        for _ in range(64):
-            place = choose.randrange(len(new))
-            mixed[place] = new[place]
-        return bytes(mixed)
-    return bytes(choose.choice(pair) for pair in zip(old, new))
+        return b"".join(choose.choice((old, new))[place:place + 512] for place in range(0, len(new), 512))
+    mask = int.from_bytes(choose.getrandbits(8 * len(new)).to_bytes(len(new), "big").translate(EITHER), "big")
+    one, other = int.from_bytes(old, "big"), int.from_bytes(new, "big")
+    return (one ^ ((one ^ other) & mask)).to_bytes(len(new), "big")
 
 
 class Heard:
@@ -183,9 +179,9 @@ def groups_of(data):
     return bodies, sum(isinstance(thing, Record) for body in bodies for thing in things_of(body))
 
 
-def images_of(life, choose, chance):
-    """Images of some moments, several of the first ones, each with what was told by then."""
-    disk, heard, file, folder, moments = Disk(life.before), Heard(), None, None, 0
+def moments_of(life):
+    """The file's disk at each moment between two of its calls, with what was told by then."""
+    disk, heard, file, folder = Disk(life.before), Heard(), None, None
     is_folder_synced = False
     for name, fd, rest, data in life.each_call():
         if name == "open":
@@ -201,18 +197,22 @@ def images_of(life, choose, chance):
         if fd != file or name.startswith("pread"):
             continue
         assert not name.startswith("ftruncate"), "the file was cut: a log is never shorter"
-        # (the most may be lost before a sync, and what was told meanwhile is known)
-        for _ in range(FEW if moments < FEW else choose.random() < chance):
-            yield disk.image(choose), heard.highest
-        moments += 1
+        # (just before a call, what was told since the one before is known)
+        yield disk, heard.highest
         if name.startswith("pwrite") and data:
             disk.pending.append((int(rest[0].split()[1]), data))
         elif name in ("fsync", "fdatasync"):
             disk.sync()
-    for _ in range(FEW):
-        yield disk.image(choose), heard.highest
+    yield disk, heard.highest
     assert heard.count > 60 * CLIENTS, "only %d replies were seen" % heard.count
     assert disk.now() == life.after, "the calls that were seen don't make the file that is there"
+
+
+def images_of(life, choose, chance):
+    """Images of some moments, several of the first ones, each with what was told by then."""
+    for number, (disk, highest) in enumerate(moments_of(life)):
+        for _ in range(FEW if number < FEW else choose.random() < chance):
+            yield disk.image(choose), highest
 
 
 def is_kept(image, highest, before, after):
@@ -245,7 +245,7 @@ def test_life(program, shim, folder, choose, number, start, most):
             file.write(start)
     life = Life(program, shim, path, choose, number)
     before, after = groups_of(start)[0] if start else [], groups_of(life.after)[0]
-    count = sum(1 for _ in images_of(life, random.Random(0), 1))
+    count = sum(1 for _ in moments_of(life))
     torn, found = b"", 0
     for image, highest in images_of(life, choose, most / count):
         records = is_kept(image, highest, before, after)
