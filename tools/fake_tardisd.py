@@ -62,7 +62,8 @@ class LogFile:
         os.fsync(folder)
         os.close(folder)
         data = os.pread(self.fd, os.fstat(self.fd).st_size, 0)
-        if log_file.is_new(data) and not (wrong == "stays" and data):
+        is_new = log_file.is_new(data)
+        if is_new and not (wrong == "stays" and data):
             data = self.begin(wanted)
         try:
             self.take(data, wanted)
@@ -71,10 +72,15 @@ class LogFile:
                 data = self.reader.text or self.begin(wanted)
                 os.ftruncate(self.fd, len(self.reader.text))
                 self.take(data, wanted)
+                self.found = "in a new file"
                 return
             if wrong == "touches":
                 os.pwrite(self.fd, b"x", len(data))
             raise Refused(13, "the file isn't taken: %s" % fault) from None
+        model = self.model
+        self.found = "in a new file" if is_new else "with %d states, %d of them kept, from a file of %d groups in %d bytes, read in 1 ms%s" % (
+            len(model.order), len(model.order) - len(model.collected), self.number, self.place,
+            "; its end was torn, and is mended" if data[self.place:].strip(b"\0") else "")
 
     def begin(self, wanted):
         os.pwrite(self.fd, bytes(ROOM), 0)
@@ -249,7 +255,7 @@ def main():
         print("tardisd: the file can't be opened: %s" % fault, file=sys.stderr)
         sys.exit(10)
     server = Server(options["--listen"][len("unix:"):], log, wrong, tidy)
-    print("tardisd: site %d of %d listens at %s" % (site, sites, options["--listen"]), file=sys.stderr, flush=True)
+    print("tardisd: site %d of %d listens at %s, %s" % (site, sites, options["--listen"], log.found), file=sys.stderr, flush=True)
     while True:
         server.turn()
 

@@ -123,6 +123,8 @@ def let_talk(talkers, until=lambda: False):
         readable, writable, _ = select.select(list(by_socket), [it for it in by_socket if by_socket[it].to_send], [], 0.001)
         for it in writable:
             lives = _survives(by_socket[it].send) and lives
+        if readable:
+            end = time.monotonic() + PATIENCE
         for it in readable:
             lives = _survives(by_socket[it].receive) and lives
     return lives

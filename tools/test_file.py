@@ -40,6 +40,9 @@ from servers import PATIENCE, first_line, stop  # noqa: E402
 from talkers import Talker, Told, collects, let_talk, merges, take_rest, transactions  # noqa: E402
 
 CLIENTS = 20
+#: what a server says once it listens: how many states it knows and keeps, the groups and bytes of its log, and whether its end was torn
+LINE = re.compile(r"tardisd: site \d+ of \d+ listens at (\S+), (?:in a new file|with (\d+) states, (\d+) of them kept, from a file of (\d+) "
+                  r"groups in (\d+) bytes(, read in \d+ ms)?(; its end was torn, and is mended)?)\n")
 DISK_FAULT, BAD_LOG = 10, 13
 LONGEST_RUN = 900
 
@@ -53,9 +56,11 @@ class Server:
                                         stdout=subprocess.DEVNULL, stderr=subprocess.PIPE, preexec_fn=before)
 
     def listens(self):
-        """Waits until it listens, and gives its line."""
-        self.line = first_line(self.process)
-        assert " listens at " in self.line, self.line
+        """Waits until it listens, and takes what it says of its file."""
+        line = first_line(self.process)
+        found = LINE.fullmatch(line)
+        assert found and found[1] == self.address, line
+        self.says = None if found[2] is None else (*map(int, found.groups()[1:5]), found[7] is not None)
         return self
 
     def kill(self):
@@ -147,8 +152,12 @@ def one_life(program, history, choose, number):
 def is_served(program, history, number, tidied):
     """A server on the file serves what it holds, and nothing of those that asked before. Then the leaves are joined, and what nobody
     reads is collected."""
+    data, text = bytes_of(history.path), len(history.reader.text)
     server = Server(program, history.path).listens()
     try:
+        known = len(history.records) + 1
+        said = (known, known - history.collected, history.reader.number, text, data[text:].strip(b"\0") != b"")
+        assert server.says == said, "it says %s, and the file has %s" % (server.says, said)
         with tardis.connect(server.address, PATIENCE) as site:
             stat = site.stat()
             assert (stat.known, stat.sessions) == (len(history.records) + 1, 0), "it serves another site: %s" % (stat,)
@@ -246,8 +255,10 @@ def test_new_files(program, folder, kills, choose):
 
 def assert_serves(program, path, records, words=()):
     """A server opens the file, serves so many records, and leaves a log that ends with zeros alone."""
+    before = bytes_of(path) if os.path.exists(path) else b""
     server = Server(program, path, words).listens()
     try:
+        assert (server.says is None) == log_file.is_new(before) and (not server.says or server.says[0] == records + 1), server.says
         with tardis.connect(server.address, PATIENCE) as site:
             stat = site.stat()
             assert stat.known == records + 1, "%d states are known, and %d records are there" % (stat.known, records)
@@ -409,13 +420,14 @@ def limited(most):
 
 def test_full_disk(program, folder, choose):
     """A server whose file can't grow ends, and what it told is there."""
-    for number, most in enumerate((1_100_000, 1_200_001, 1_300_333)):
+    for number, room in enumerate((100, 20_000, 60_000)):
         history = History(os.path.join(folder, "full%d" % number))
-        assert_serves(program, history.path, 0)
-        grown = len(bytes_of(history.path))
-        server = Server(program, history.path, before=limited(max(most, grown))).listens()
+        made = log_bytes(FRONT, [], room)
+        with open(history.path, "wb") as file:
+            file.write(made)
+        server = Server(program, history.path, before=limited(len(made))).listens()
         try:
-            talks = [transactions(history.told, choose, b"full.%d" % client, 100_000, True) for client in range(CLIENTS)]
+            talks = [transactions(history.told, choose, b"full.%d" % client, 10_000, True) for client in range(CLIENTS)]
             talkers = [Talker(server.address, talk, history.told, client % 2 == 0) for client, talk in enumerate(talks)]
             let_talk(talkers)
             take_rest(talkers)
@@ -423,8 +435,10 @@ def test_full_disk(program, folder, choose):
             line = server.process.stderr.read().decode()
         finally:
             server.kill()
-        assert status == DISK_FAULT and line.count("\n") == 1, (status, line)
+        assert status == DISK_FAULT and "disk failed" in line and line.count("\n") == 1, (status, line)
+        told = len(history.told.committed)
         history.look()
+        assert len(history.records) >= told and (room < 1000 or told > 10), "%d commits were told" % told
         is_served(program, history, number, True)
     print("three files couldn't grow", flush=True)
 
