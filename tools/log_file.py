@@ -58,6 +58,10 @@ class NoLog(Exception):
         self.place = place
 
 
+def is_zeros(data: bytes) -> bool:
+    return data == bytes(len(data))
+
+
 # entries
 
 def entry(item: bytes) -> bytes:
@@ -208,13 +212,13 @@ def _look_at_end(data: bytes, place: int) -> None:
     """Raises `NoLog` where something else stands behind a log than what a crash leaves."""
     mark = data.find(b"\xf7", place)
     behind = min(place + LONGEST_ENTRY, mark + 1 if mark >= 0 else len(data))
-    if data[behind:].strip(b"\0"):
+    if not is_zeros(data[behind:]):
         raise NoLog("damaged", place)
 
 
 def is_new(data: bytes) -> bool:
     """Whether the bytes are those of a file that a server has only begun to make."""
-    if not data.strip(b"\0"):
+    if is_zeros(data):
         return True
-    return len(data) >= 4096 and not data[128:].strip(b"\0") and entry_at(data, 0) is None and all(
+    return len(data) >= 4096 and is_zeros(data[128:]) and entry_at(data, 0) is None and all(
         byte in (0, named) for byte, named in zip(data, NAME))

@@ -156,7 +156,7 @@ def is_served(program, history, number, tidied):
     server = Server(program, history.path).listens()
     try:
         known = len(history.records) + 1
-        said = (known, known - history.collected, history.reader.number, text, data[text:].strip(b"\0") != b"")
+        said = (known, known - history.collected, history.reader.number, text, not log_file.is_zeros(data[text:]))
         assert server.says == said, "it says %s, and the file has %s" % (server.says, said)
         with tardis.connect(server.address, PATIENCE) as site:
             stat = site.stat()
@@ -268,7 +268,7 @@ def assert_serves(program, path, records, words=()):
     data = bytes_of(path)
     reader = LogReader()
     found = sum(isinstance(thing, Record) for _, body in reader.read(data) for thing in things_of(body))
-    assert found == records and not data[len(reader.text):].strip(b"\0"), "the file isn't as it was served"
+    assert found == records and log_file.is_zeros(data[len(reader.text):]), "the file isn't as it was served"
 
 
 # files that were changed

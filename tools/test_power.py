@@ -32,7 +32,7 @@ from talkers import Talker, Told, let_talk, take_rest, transactions
 from tardis import replies
 from test_files import built
 
-LIVES, CLIENTS, LONGEST_RUN = 6, 8, 600
+LIVES, CLIENTS, LONGEST_RUN = 6, 8, 900
 #: of so many first moments so many images each are looked at
 FEW = 6
 #: a byte's place in this makes it all ones or all zeros
