@@ -27,10 +27,11 @@ class Told:
         self.states = set()
         #: what was read: who wrote it, the key, and the value
         self.reads = set()
-        self.raised, self.collected = [], 0
+        self.raised, self.collected, self.replies = [], 0, 0
 
     def note(self, request, reply):
         """Sees each reply, with its request."""
+        self.replies += 1
         if isinstance(reply, (replies.Value, replies.Deleted)):
             if reply.writer != (0, 0):
                 self.states.add(reply.writer)

@@ -141,8 +141,9 @@ def one_life(program, history, choose, number):
             by_turns = choose.random() < (0.5 if number % 2 else 0.9)
             talk = transactions(history.told, choose, name, 400 if by_turns else 60, choose.random() < 0.8)
             talkers.append(Talker(server.address, talk, history.told, by_turns))
-        end = time.monotonic() + choose.choice([0.02, 0.1, 0.2]) * choose.random()
-        let_talk(talkers, lambda: time.monotonic() > end)
+        enough = history.told.replies + choose.randrange(choose.choice([30, 300, 3000]))
+        let_talk(talkers, lambda: history.told.replies >= enough)
+        time.sleep(choose.choice([0, 0.002 * choose.random()]))
     finally:
         server.kill()
     take_rest(talkers)
@@ -428,7 +429,7 @@ def test_full_disk(program, folder, choose):
         server = Server(program, history.path, before=limited(len(made))).listens()
         try:
             talks = [transactions(history.told, choose, b"full.%d" % client, 10_000, True) for client in range(CLIENTS)]
-            talkers = [Talker(server.address, talk, history.told, client % 2 == 0) for client, talk in enumerate(talks)]
+            talkers = [Talker(server.address, talk, history.told) for talk in talks]
             let_talk(talkers)
             take_rest(talkers)
             status = server.process.wait(PATIENCE)
