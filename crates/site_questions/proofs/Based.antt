@@ -1,13 +1,12 @@
 -- What is told of where states parted.
-use Rattle.std.proofs.Common.{◌≡◌, ℕ, ◌<◌, ◌≤◌, Bool, true, false, not, ◌&&◌, nat_lt, List, [], ◌∷◌, length, map, take, find, Option, Some, None, IsTrue, IsFalse}
-use Rattle.std.proofs.Common.{inl, inr, refl, sym, ap, ap₂, subst, ◌∙◌, arith, take_all}
+use Rattle.std.proofs.Common.{◌≡◌, ℕ, ◌<◌, ◌≤◌, Bool, true, false, not, nat_lt, List, [], ◌∷◌, length, map, take, find, Option, Some, None, IsTrue}
+use Rattle.std.proofs.Common.{inl, inr, refl, sym, ap, ◌∙◌, arith, take_all}
 use Rattle.std.specs.Prelude.{min, option_map}
 use Rattle.std.specs.List.{list_all, list_any}
 use Rattle.std.specs.Option.{option_or, option_map_or}
 use Rattle.std.proofs.lemmas.Bool.{and_parts, and_from, cases_Bool, cond-true, cond-false, both_ways, not-true, not_from_false, false_from_ne_true, ltb-true, lt-ltb}
 use Rattle.std.proofs.lemmas.Option.{none-some}
 use Rattle.tardis_base.specs.declared.ids.StateId.{StateId}
-use Rattle.tardis_base.specs.declared.records.Record.{Record}
 use Rattle.tardis_base.specs.Ids.{is_among}
 use Rattle.plain_dag.specs.States.{is_known, arrived, children}
 use Rattle.plain_dag.specs.Above.{is_above_all}
@@ -24,7 +23,6 @@ use Rattle.plain_site.specs.Sound.{IsSound}
 use Rattle.plain_questions.specs.declared.questions.Question.TheVariants.{Base}
 use Rattle.plain_questions.specs.declared.questions.Denial.{Denial}
 use Rattle.plain_questions.specs.declared.questions.Denial.TheVariants.{Unknown, Collected, ForkPoints}
-use Rattle.plain_questions.specs.declared.questions.Answered.{Answered}
 use Rattle.plain_questions.specs.declared.questions.Answered.TheVariants.{ForkReads, Refused}
 use Rattle.plain_questions.specs.Answer.{first_collected, denial, fork_read, reads_at, number_of, answer}
 use Rattle.plain_questions.proofs.Bases.{fork-points-are-kept}

@@ -1,10 +1,9 @@
 -- What is told of kept states, and what denies the others.
-use Rattle.std.proofs.Common.{◌≡◌, ℕ, ◌+◌, ◌<◌, Bool, true, false, not, ◌&&◌, List, [], ◌∷◌, ◌++◌, length, take, get_or, find, map, filter, Option, Some, None, IsTrue, IsFalse}
-use Rattle.std.proofs.Common.{inl, inr, refl, sym, ap, ap₂, subst, ◌∙◌, arith}
+use Rattle.std.proofs.Common.{◌≡◌, ℕ, ◌+◌, ◌<◌, Bool, true, false, not, ◌&&◌, List, [], ◌∷◌, ◌++◌, length, take, get_or, map, filter, Option, Some, None, IsTrue, IsFalse}
+use Rattle.std.proofs.Common.{refl, sym, ap, ap₂, subst, ◌∙◌}
 use Rattle.std.specs.Prelude.{option_map, IfSome}
-use Rattle.std.specs.List.{list_all}
 use Rattle.std.specs.Option.{option_or, option_map_or}
-use Rattle.std.proofs.lemmas.Bool.{and_parts, cases_Bool, cond-true, cond-false, not-true, not_from_true, not_from_false}
+use Rattle.std.proofs.lemmas.Bool.{cond-true, cond-false, not_from_true, not_from_false}
 use Rattle.std.proofs.lemmas.List.{map-append, map_more, append-nil}
 use Rattle.std.proofs.lemmas.List.Elements.{filter_more}
 use Rattle.tardis_base.specs.declared.ids.StateId.{StateId}
@@ -25,7 +24,7 @@ use Rattle.plain_questions.specs.declared.questions.Answered.{Answered}
 use Rattle.plain_questions.specs.declared.questions.Answered.TheVariants.{Refused}
 use Rattle.plain_questions.specs.Answer.{first_collected, of_kept}
 use Rattle.plain_questions.proofs.Told.{kept-is-told, one-kept}
-use Rattle.site_questions.specs.Kept.{IsDenied, FindsKept}
+use Rattle.site_questions.specs.Kept.{IsDenied}
 
 -- a state that isn't known is denied so
 pub unknown-denied : (site : Site) (x : StateId) → IsFalse (is_known site.dag x) → IsDenied site x (Unknown x)

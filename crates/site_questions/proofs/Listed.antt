@@ -1,9 +1,9 @@
 -- The keys that are told of a state, out of the keys that a store lists.
-use Rattle.std.proofs.Common.{◌≡◌, ℕ, ◌+◌, ◌≤◌, ◌⊎◌, Bool, true, false, ◌&&◌, ◌||◌, List, [], ◌∷◌, ◌++◌, filter, take, Option, Some, None}
-use Rattle.std.proofs.Common.{is_some, IsTrue, IsFalse, IsPermutation, IsSorted, bytes_eq, nat_cmp, inl, inr, refl, sym, ap, ap₂, subst, ◌∙◌, arith}
+use Rattle.std.proofs.Common.{◌≡◌, ℕ, ◌+◌, ◌≤◌, ◌⊎◌, Bool, true, false, ◌&&◌, List, [], ◌∷◌, ◌++◌, filter, take, Option, Some, None}
+use Rattle.std.proofs.Common.{IsPermutation, IsSorted, bytes_eq, nat_cmp, inl, inr, refl, sym, ap, subst, ◌∙◌, arith}
 use Rattle.std.specs.Cmp.Lexicographic.{slice_cmp}
 use Rattle.std.specs.List.{IsDistinct, slice_get}
-use Rattle.std.specs.Option.{option_map, option_and_then}
+use Rattle.std.specs.Option.{option_map}
 use Rattle.std.proofs.lemmas.Bool.{cases_Bool, cond-true, cond-false}
 use Rattle.std.proofs.lemmas.List.{map-append, append-nil, take_more}
 use Rattle.std.proofs.lemmas.List.Elements.{filter-append}
@@ -14,7 +14,6 @@ use Rattle.tardis_base.specs.declared.ids.StateId.{StateId}
 use Rattle.tardis_base.specs.declared.ids.Slot.{Slot}
 use Rattle.tardis_base.specs.declared.records.Record.{Record}
 use Rattle.tardis_base.specs.declared.records.Write.{Write}
-use Rattle.tardis_base.specs.Bytes.{value_of}
 use Rattle.tardis_base.specs.Keys.{is_key_among}
 use Rattle.plain_dag.specs.Writers.{read}
 use Rattle.plain_dag.proofs.Keys.{same-key}
@@ -25,7 +24,7 @@ use Rattle.record_store.specs.Store.{Store}
 use Rattle.record_store.specs.Stands.{StoreStands}
 use Rattle.record_store.proofs.Reading.{found-is_read}
 use Rattle.conflict_keys.proofs.Least.{same-keys}
-use Rattle.plain_questions.specs.Contents.{is_asked, has_value, keys_behind}
+use Rattle.plain_questions.specs.Contents.{is_asked, keys_behind}
 use Rattle.plain_questions.specs.PageLaws.{TellsEachOnce}
 use Rattle.plain_questions.proofs.Once.{keys-are-told-once}
 use Rattle.site_questions.specs.Listed.{is_told, has_value_read}

@@ -1,24 +1,23 @@
 -- The keys that a state itself wrote, out of those that it holds.
 use Rattle.std.proofs.Common.{◌≡◌, ℕ, ◌+◌, ◌<◌, Bool, true, false, not, ◌&&◌, ◌||◌, ◌⊎◌, List, [], ◌∷◌, ◌++◌, length, is_some, take, get_or, Option, Some, None, IsTrue, IsFalse}
-use Rattle.std.proofs.Common.{inl, inr, refl, sym, ap, ap₂, subst, ◌∙◌}
+use Rattle.std.proofs.Common.{inl, inr, refl, sym, ap, subst, ◌∙◌}
 use Rattle.std.specs.Prelude.{bytes_eq}
 use Rattle.std.specs.Option.{option_map, option_and_then, option_map_or}
 use Rattle.std.proofs.lemmas.Bool.{and_parts, and_from, cases_Bool, both_ways, not-true}
-use Rattle.std.proofs.lemmas.Option.{none-some, same_Some}
 use Rattle.tardis_base.specs.declared.ids.StateId.{StateId}
 use Rattle.tardis_base.specs.declared.records.Record.{Record}
 use Rattle.tardis_base.specs.declared.records.Write.{Write}
-use Rattle.tardis_base.specs.Ids.{same_id, is_among}
-use Rattle.tardis_base.specs.Keys.{is_key_among, are_ascending_keys, keys_of, has_key, with_key, write_of}
+use Rattle.tardis_base.specs.Ids.{is_among}
+use Rattle.tardis_base.specs.Keys.{is_key_among, are_ascending_keys, keys_of, with_key, write_of}
 use Rattle.tardis_base.proofs.KeySets.{with_key_cases}
 use Rattle.tardis_base.proofs.WriteSets.{has_key-keys_of, has_key-write_of}
 use Rattle.plain_dag.specs.States.{is_known, record_at, writes_key, write_at}
-use Rattle.plain_dag.specs.Writers.{read, latest_writer, version_at}
+use Rattle.plain_dag.specs.Writers.{latest_writer, version_at}
 use Rattle.plain_dag.specs.Above.{is_above}
-use Rattle.plain_dag.specs.Collection.{is_kept, stand_in}
+use Rattle.plain_dag.specs.Collection.{is_kept}
 use Rattle.plain_dag.specs.Dag.{IsDag}
 use Rattle.plain_dag.specs.Laws.{StandInsAreShared}
-use Rattle.plain_dag.proofs.Ids.{same_test, not-both, same_id-true, same_id_self}
+use Rattle.plain_dag.proofs.Ids.{same_test, same_id-true, same_id_self}
 use Rattle.plain_dag.proofs.Keys.{same-key}
 use Rattle.plain_dag.proofs.StandIns.{kept-stands-for-itself}
 use Rattle.plain_dag.proofs.LatestWriter.{latest-is-latest}

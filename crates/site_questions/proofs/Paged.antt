@@ -1,5 +1,5 @@
 -- Pages of keys and of entries.
-use Rattle.std.proofs.Common.{◌≡◌, ℕ, Bool, true, false, ◌&&◌, List, [], ◌∷◌, length, map, take, filter, filter_map, Option, Some, None, is_some, IsTrue, inl, inr}
+use Rattle.std.proofs.Common.{◌≡◌, ℕ, Bool, false, ◌&&◌, List, [], ◌∷◌, length, take, filter, filter_map, Option, Some, None, is_some, IsTrue, inl, inr}
 use Rattle.std.proofs.Common.{refl, sym, ap, ap₂, subst, ◌∙◌}
 use Rattle.std.specs.Prelude.{min, option_map}
 use Rattle.std.specs.List.{list_all, cons_option}

@@ -1,17 +1,12 @@
 -- The first entries, one after another.
-use Rattle.std.proofs.Common.{◌≡◌, ℕ, ◌+◌, ◌-◌, ◌<◌, drop, get_or, Option, Some, None, ◌==◌, Bool, true, false, ◌&&◌, not, nat_le, nat_lt, List, [], ◌∷◌, ◌++◌, length, IsTrue, IsFalse, inl, inr, refl, sym, ap, ap₂, subst, ◌∙◌, arith}
+use Rattle.std.proofs.Common.{◌≡◌, ℕ, ◌+◌, ◌-◌, ◌<◌, drop, get_or, Option, Some, None, ◌==◌, true, false, ◌&&◌, not, nat_le, nat_lt, List, [], ◌∷◌, ◌++◌, length, IsTrue, refl, sym, ap, ◌∙◌, arith}
 use Rattle.std.proofs.Common.{append-nil, eqb-true}
-use Rattle.std.proofs.lemmas.Bool.{cond-true, cond-false, cases_Bool, both_ways, false_from_ne_true, ltb-true, ltb-false, leb-true, le-leb}
+use Rattle.std.proofs.lemmas.Bool.{cond-true, cond-false, both_ways, false_from_ne_true, ltb-true, ltb-false, leb-true, le-leb}
 use Rattle.std.proofs.lemmas.List.{append_assoc}
 use Rattle.std.specs.Prelude.{filter_map, option_map}
 use Rattle.std.specs.List.{cons_option}
-use Rattle.std.specs.Option.{option_and_then}
 use Rattle.tardis_base.specs.declared.ids.StateId.{StateId}
 use Rattle.tardis_base.specs.declared.records.Record.{Record}
-use Rattle.tardis_base.specs.declared.records.Write.{Write}
-use Rattle.tardis_base.specs.declared.records.Write.TheVariants.{Put}
-use Rattle.tardis_base.specs.Bytes.{value_of}
-use Rattle.plain_dag.specs.Writers.{read}
 use Rattle.plain_questions.specs.declared.questions.Entry.{Entry}
 use Rattle.plain_questions.specs.Contents.{entry_at, value_at}
 use Rattle.site_questions.proofs.Orders.{Key, texts}

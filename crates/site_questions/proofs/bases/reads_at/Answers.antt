@@ -1,10 +1,9 @@
-use Rattle.std.proofs.Common.{◌≡◌, ◌++◌, ◌∷◌, [], map, get_or, take, take_all, sym, ap, ap₂, subst, ◌∙◌, Some}
+use Rattle.std.proofs.Common.{◌++◌, ◌∷◌, [], map, get_or, take_all, sym, ap, ap₂, ◌∙◌}
 use Rattle.std.proofs.lemmas.Bool.{both_ways}
 use Rattle.std.proofs.lemmas.List.{map_more}
 use Rattle.tardis_base.specs.Ids.{root}
 use Rattle.plain_dag.specs.Collection.{is_kept}
 use Rattle.state_dag.proofs.Passing.{all-at}
-use Rattle.plain_questions.specs.declared.questions.ForkRead.{ForkRead}
 use Rattle.plain_questions.specs.Answer.{fork_read}
 use Rattle.site_questions.proofs.Kept.{table-stands, table-names, slot-found}
 use Rattle.site_questions.proofs.bases.reads_at.Goals as goal

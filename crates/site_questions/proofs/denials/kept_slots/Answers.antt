@@ -1,4 +1,4 @@
-use Rattle.std.proofs.Common.{◌≡◌, map, get_or, IsTrue, Vec, Global, sym, ap, subst, ◌∙◌, take_all, Some}
+use Rattle.std.proofs.Common.{map, get_or, IsTrue, Vec, Global, sym, ap, subst, ◌∙◌, take_all, Some}
 use Rattle.std.specs.List.{list_all}
 use Rattle.std.proofs.lemmas.Bool.{both_ways}
 use Rattle.tardis_base.specs.declared.ids.Slot.{Slot}

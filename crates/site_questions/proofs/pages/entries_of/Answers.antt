@@ -1,10 +1,10 @@
-use Rattle.std.proofs.Common.{◌≡◌, ℕ, List, ◌-◌, ◌+◌, ◌∙◌, ◌∷◌, [], ◌++◌, length, map, drop, ap, ap₂, subst, sym, refl, Some, None}
+use Rattle.std.proofs.Common.{◌≡◌, ℕ, List, ◌-◌, ◌+◌, ◌∙◌, ◌∷◌, [], ◌++◌, ap, ap₂, sym, Some, None}
 use Rattle.std.specs.Prelude.{filter_map}
 use Rattle.std.specs.Option.{option_copied, option_and_then}
 use Rattle.std.proofs.lemmas.List.{drop_all}
 use Rattle.tardis_base.specs.Bytes.{value_of}
 use Rattle.plain_questions.specs.declared.questions.Entry.{Entry}
-use Rattle.plain_questions.specs.Answer.{entry_length, first_entries}
+use Rattle.plain_questions.specs.Answer.{entry_length}
 use Rattle.plain_questions.specs.Contents.{entry_at, value_at}
 use Rattle.site_questions.specs.Room.{has_no_room}
 use Rattle.site_questions.proofs.Orders.{texts}

@@ -1,4 +1,4 @@
-use Rattle.std.proofs.Common.{◌≡◌, ◌+◌, ◌||◌, ◌&&◌, take, List, ℕ, Some, sym, ap, subst, ◌∙◌, take_all}
+use Rattle.std.proofs.Common.{◌≡◌, ◌||◌, ◌&&◌, List, ℕ, sym, ap, ◌∙◌, take_all}
 use Rattle.std.proofs.lemmas.Option.{same_Some}
 use Rattle.tardis_base.specs.Keys.{is_key_among, with_key}
 use Rattle.version_list.specs.Reads.{found}

@@ -1,4 +1,4 @@
-use Rattle.std.proofs.Common.{◌≡◌, filter, take_all, ap, sym, ◌∙◌}
+use Rattle.std.proofs.Common.{filter, take_all, ap, sym, ◌∙◌}
 use Rattle.tardis_base.specs.Ids.{root}
 use Rattle.plain_dag.specs.Collection.{is_kept}
 use Rattle.site_questions.proofs.Kept.{passing-next, failing-next}
