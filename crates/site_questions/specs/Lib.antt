@@ -1,0 +1,5 @@
+-- What a site tells, and how it is found.
+pub mod Kept
+pub mod Own
+pub mod Listed
+pub mod Room

@@ -1,0 +1,17 @@
+//! Questions answered: what a site tells without a session, a question at a time. Nothing of the site changes.
+//!
+//! What is told is stated in `docs/MODEL.md`, and by `plain_questions` as definitions.
+#![tactic(auto)]
+
+mod bases;
+mod denials;
+mod found;
+mod listing;
+mod pages;
+mod reads;
+mod records;
+
+pub use bases::tell_base;
+pub use pages::{tell_entries, tell_keys};
+pub use reads::tell_read;
+pub use records::tell_record;
