@@ -1,11 +1,13 @@
 //! An input that is read whole.
 
 ghost use Rattle.std.specs.Prelude.{◌≡◌, ◌≤◌, ◌<◌, Err, length, IfOk};
+ghost use Rattle.tardis_base.specs.Sizes.{piece as longest_piece};
 ghost use Rattle.tardis_io.specs.Told.{WhileTold, Takes};
 ghost use Rattle.tardis_io.specs.Faults.{HasCause, Rose};
 ghost use Rattle.branch_export.specs.Imported.{IsRead};
 
 use std::alloc::Global;
+use tardis_base::PIECE;
 use tardis_io::{Failed, Source};
 
 /// Why an input wasn't read to its end.
@@ -19,9 +21,6 @@ pub(crate) enum InputFault {
 
 /// How many bytes are taken at most: 1 TiB.
 const MOST_TAKEN: usize = 1_099_511_627_776;
-
-/// How many bytes one take asks for at most.
-const PIECE: usize = 65_536;
 
 /// All bytes of an input, up to its end.
 ///
@@ -39,7 +38,7 @@ pub(crate) fn read_whole<I: Source>(alloc: Global, input: &mut I) -> Result<Vec<
 
 /// The same, by pieces that come into this buffer.
 fn read_by<I: Source>(alloc: Global, input: &mut I, piece: &mut [u8]) -> Result<Vec<u8>, InputFault>
-    requires { length piece.old ≡ 65536 }
+    requires { length piece.old ≡ longest_piece }
     ensures read { WhileTold (I.left input.old) (I.left input.new) (IsRead (λ bytes. bytes.items) result) }
     ensures later { I.faults input.old ≤ I.faults input.new }
     ensures cause { result ≡ Err InputFault.ReadFault → Rose (I.faults input.old) (I.faults input.new) }

@@ -5,6 +5,7 @@
 ghost use Rattle.std.specs.Prelude.{◌≡◌, IsTrue, IfSome};
 ghost use Rattle.state_dag.specs.Table.{is_slot};
 ghost use Rattle.plain_site.specs.Site.{Site};
+ghost use Rattle.session_core.specs.Joins.{IsMergeEnd};
 ghost use Rattle.session_core.specs.Machine.{SiteStands, opened_with};
 ghost use Rattle.merge_rules.specs.Auto.{auto_step, end_of};
 ghost use Rattle.merge_rules.specs.Steps.{Ends, FirstTwo, MayJoin, JoinsAs};
@@ -97,11 +98,12 @@ fn join(
 
 /// How a commit ended, by its reply.
 fn end_of(reply: Reply) -> AutoEnd
+    requires { IsMergeEnd reply }
     ensures { result ≡ end_of reply }
 {
     match reply {
         Reply::Committed { id, .. } => AutoEnd::Merged(id),
         Reply::Refused { refusal } => AutoEnd::Refused(refusal),
-        _ => AutoEnd::Single,
+        _ => unreachable!(),
     }
 }
