@@ -1,0 +1,2 @@
+-- What lasts of a site's requests in bytes, and when such bytes are taken back.
+pub mod Bytes

@@ -1,0 +1,41 @@
+//! The site as a machine that starts again from what lasted of its requests.
+
+use crate::RestSite;
+use rest_machine::Resting;
+use tardis_base::{NoMemory, ReplyBuf};
+
+impl Resting for RestSite {
+    ghost use Rattle.plain_site.specs.Site.{Site};
+    ghost use Rattle.plain_site.specs.Step.{site_machine};
+    ghost use Rattle.session_core.specs.Machine.{SiteStands, opened_with};
+    ghost use Rattle.rest_site.specs.Bytes.{lasting_bytes, TakesBack};
+
+    ghost Plain = { Site };
+
+    ghost plain = { site_machine };
+
+    ghost stands = { SiteStands };
+
+    ghost opening = { opened_with };
+
+    ghost lasting = { lasting_bytes };
+
+    ghost takes_back = { TakesBack };
+
+    fn act_lasting(
+        &mut self,
+        actor: u16,
+        request: &[u8],
+        out: &mut ReplyBuf,
+        log: &mut Vec<u8>,
+    ) -> Result<(), NoMemory> {
+        let _ = (self, actor, request, log);
+        out.clear();
+        Err(NoMemory)
+    }
+
+    fn take_back(&mut self, bytes: &[u8]) -> Result<bool, NoMemory> {
+        let _ = (self, bytes);
+        Err(NoMemory)
+    }
+}
