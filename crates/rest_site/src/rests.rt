@@ -29,13 +29,13 @@ impl Resting for RestSite {
         out: &mut ReplyBuf,
         log: &mut Vec<u8>,
     ) -> Result<(), NoMemory> {
-        let _ = (self, actor, request, log);
+        let _ = (actor, request, log);
         out.clear();
         Err(NoMemory)
     }
 
     fn take_back(&mut self, bytes: &[u8]) -> Result<bool, NoMemory> {
-        let _ = (self, bytes);
+        let _ = bytes;
         Err(NoMemory)
     }
 }
