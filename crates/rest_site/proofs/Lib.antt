@@ -1,1 +1,7 @@
--- Nothing is left to prove yet.
+-- How what lasts is seen, put behind a log, and taken back.
+pub mod Counts
+pub mod Newest
+pub mod Putting
+pub mod Raised
+pub mod Seen
+pub mod Taken

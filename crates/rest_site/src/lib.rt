@@ -1,4 +1,4 @@
-//! A site that can end and start again: of each request it puts what lasts behind a log, and it takes back what stands in one.
+//! A site that can end and start again: it puts what lasts of each request behind a log, and takes back what stands in one.
 //!
 //! The rules are stated in `docs/MODEL.md`, 'A site at rest'; how what lasts is spelled, in `docs/FORMATS.md`.
 #![tactic(auto)]
@@ -9,7 +9,11 @@ ghost use Rattle.plain_dag.specs.Collection.{kept_states};
 ghost use Rattle.plain_site.specs.Site.{Site, opening};
 ghost use Rattle.session_core.specs.Machine.{SiteStands, opened_with};
 
+mod notes;
+mod puts;
 mod rests;
+mod takes;
+mod things;
 
 use session_core::SiteCore;
 use std::alloc::Global;
@@ -21,6 +25,7 @@ use tardis_base::{Limits, NoMemory};
 #[derive(Drop)]
 pub struct RestSite {
     core: SiteCore,
+    alloc: Global,
 }
 
 impl Model for RestSite {
@@ -50,7 +55,7 @@ impl RestSite {
         ensures opening { IfOk result (λ site. opened_with site ≡ opening limits own) }
     {
         let core = SiteCore::new(alloc, keys, limits, own)?;
-        Ok(RestSite { core })
+        Ok(RestSite { core, alloc })
     }
 
     /// How many states are known, the root among them, in constant time.

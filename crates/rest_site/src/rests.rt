@@ -1,8 +1,12 @@
 //! The site as a machine that starts again from what lasted of its requests.
 
 use crate::RestSite;
+use crate::notes::note;
+use crate::puts::put_lasting;
+use crate::takes::take_all;
 use rest_machine::Resting;
-use tardis_base::{NoMemory, ReplyBuf};
+use tardis_base::{Machine, NoMemory, ReplyBuf};
+use wire_talk::talk_has_one_spelling;
 
 impl Resting for RestSite {
     ghost use Rattle.plain_site.specs.Site.{Site};
@@ -29,13 +33,21 @@ impl Resting for RestSite {
         out: &mut ReplyBuf,
         log: &mut Vec<u8>,
     ) -> Result<(), NoMemory> {
-        let _ = (actor, request, log);
-        out.clear();
-        Err(NoMemory)
+        talk_has_one_spelling();
+        let before = note(&self.core);
+        match self.core.act(actor, request, out) {
+            Ok(()) => {},
+            Err(NoMemory) => return Err(NoMemory),
+        }
+        put_lasting(&self.core, &before, log);
+        Ok(())
     }
 
     fn take_back(&mut self, bytes: &[u8]) -> Result<bool, NoMemory> {
-        let _ = bytes;
-        Err(NoMemory)
+        if self.core.is_quiet() {
+            take_all(&mut self.core, self.alloc, bytes)
+        } else {
+            Ok(false)
+        }
     }
 }

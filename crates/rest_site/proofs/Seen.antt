@@ -1,0 +1,64 @@
+-- Each event leads to a site that follows, and what lasts of it is seen between the two.
+use Rattle.std.proofs.Common.{◌≡◌, Option, Some, None, IsTrue, refl, sym, subst, ◌∙◌}
+use Rattle.std.specs.Prelude.{option_to_list, OnOk, OnErr, Result, Ok, Err}
+use Rattle.std.specs.Option.{option_and_then}
+use Rattle.std.proofs.lemmas.Option.{none-some}
+use Rattle.tardis_base.specs.declared.faults.NoMemory.{NoMemory}
+use Rattle.tardis_base.specs.declared.requests.Request.{Request}
+use Rattle.tardis_base.specs.declared.replies.Refusal.TheVariants.{Malformed}
+use Rattle.tardis_base.specs.Plain.{Event}
+use Rattle.tardis_base.specs.Valid.{is_u16}
+use Rattle.wire_talk.specs.Laws.{RequestsHaveOneSpelling}
+use Rattle.wire_talk.specs.RequestReadings.{request_of}
+use Rattle.plain_site.specs.Site.{Site}
+use Rattle.plain_site.specs.Answers.{refused, given}
+use Rattle.plain_site.specs.Step.{step, site_machine}
+use Rattle.plain_site.specs.Sound.{IsSound}
+use Rattle.plain_site.specs.Rest.{Lasting, at_rest, replay, lasting_of, lasting_of_event, lasting_between}
+use Rattle.plain_site.specs.RestSpellings.{is_lasting}
+use Rattle.rest_laws.proofs.Adds.{requests-add-what-lasts}
+use Rattle.rest_laws.proofs.Seen.{nothing-between, what-lasts-is-seen}
+use Rattle.rest_laws.proofs.Valid.{what-lasts-is-spelled}
+use Rattle.session_core.specs.Core.{Core}
+use Rattle.session_core.specs.Stands.{StandsForSite}
+use Rattle.session_core.specs.Machine.{SiteStands}
+use Rattle.rest_site.specs.Notes.{Follows}
+
+-- the site follows by this, if by anything
+pub record FollowsBy (before behind : Site) (o : Option Lasting) : Type 0 where
+  pub follows : Follows before behind
+  pub seen : o ≡ lasting_between before behind
+
+follows-by : (before behind : Site) (o : Option Lasting) → IsSound before → o ≡ lasting_between before behind →
+    replay (option_to_list o) (at_rest before) ≡ at_rest behind → ((l : Lasting) → o ≡ Some l → IsTrue (is_lasting l)) → FollowsBy before behind o
+follows-by before behind o sound seen adds spelled = record {
+  follows = record {
+    sound = sound;
+    adds = subst (λ (p : Option Lasting). replay (option_to_list p) (at_rest before) ≡ at_rest behind) seen adds;
+    spelled = λ l e. spelled l (seen ∙ e);
+  };
+  seen = seen;
+}
+
+pub event-follows : RequestsHaveOneSpelling → (site : Site) (event : Event) → IsTrue (is_u16 event.0) → IsSound site →
+    FollowsBy site (site_machine.step site event) (lasting_of_event site event)
+event-follows read site (n, bytes) small sound = go (request_of bytes) refl
+  where
+    go : (o : Option Request) → request_of bytes ≡ o →
+        FollowsBy site (given o (refused site Malformed) (step site n)).0 (option_and_then (λ (q : Request). lasting_of q (step site n q)) o)
+    go None is = follows-by site site None sound (sym (nothing-between site)) refl (λ l e. absurd (none-some l e))
+    go (Some q) is =
+        let valid = ((read.some bytes q).0 is).0 in
+        follows-by site (step site n q).0 (lasting_of q (step site n q)) sound (what-lasts-is-seen site n q valid sound)
+        (requests-add-what-lasts site n q) (λ l e. what-lasts-is-spelled site n q l small valid sound e)
+
+-- whether it was done or not, the site in memory stands for a sound one
+pub stands-behind : (old new : Core) (event : Event) (result : Result (Unit {0}) NoMemory) → StandsForSite old →
+    OnOk result ((s : Site) → SiteStands old s → SiteStands new (site_machine.step s event)) → OnErr result ((s : Site) → SiteStands old s → SiteStands new s) →
+    StandsForSite new
+stands-behind old new event (Ok done) before step same =
+    let now = step before.site (before.stands, before.sound) in
+    record { site = site_machine.step before.site event; stands = now.0; sound = now.1 }
+stands-behind old new event (Err fault) before step same =
+    let now = same before.site (before.stands, before.sound) in
+    record { site = before.site; stands = now.0; sound = now.1 }
