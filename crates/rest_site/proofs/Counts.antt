@@ -1,5 +1,6 @@
 -- How many states are kept and collected.
-use Rattle.std.proofs.Common.{◌≡◌, ℕ, suc, ◌+◌, ◌-◌, ◌≤◌, Bool, true, false, not, ◌||◌, List, [], ◌∷◌, length, filter, IsTrue, IsFalse, inl, inr, refl, sym, ap, ap₂, ◌∙◌, arith}
+use Rattle.std.proofs.Common.{◌≡◌, ℕ, suc, ◌+◌, ◌-◌, ◌≤◌, Bool, true, false, not, ◌||◌, List, []}
+use Rattle.std.proofs.Common.{◌∷◌, length, filter, IsTrue, IsFalse, inl, inr, refl, sym, ap, ap₂, ◌∙◌, arith}
 use Rattle.std.proofs.Common.{if◌then◌else◌, length-append}
 use Rattle.std.proofs.lemmas.Bool.{and_parts, cases_Bool, both_ways, false_from_ne_true, not-true, or_left}
 use Rattle.std.proofs.lemmas.List.Elements.{filter-append}
@@ -62,7 +63,8 @@ with-one q a (x ∷ xs) once out there =
             | inr m ↦ m
           ] in
           let more = with-one q a xs parts.1 out rest in
-          let here = length-of (λ y. same_id y a || q y) x xs ∙ ap (λ b. as_one b + length (filter (λ y. same_id y a || q y) xs)) (or-false (same_id x a) (q x) f) in
+          let here = length-of (λ y. same_id y a || q y) x xs
+          ∙ ap (λ b. as_one b + length (filter (λ y. same_id y a || q y) xs)) (or-false (same_id x a) (q x) f) in
           let there = length-of q x xs in
           omega (arith, here, more, there)
     ]

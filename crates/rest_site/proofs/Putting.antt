@@ -42,7 +42,8 @@ module _ (noted : Noted) (before behind : Site) (is_noted : IsNoted noted before
   grew-not none = λ more. let was = is_noted.known in none (omega (arith, more, was, is_known))
 
   module _ (none : ¬ (noted.known < known)) (follows : Follows before behind) (sound : IsSound behind) (raised : Option Consent)
-      (tells : length before.floors ≡ length behind.floors → option_map (λ (c : Consent). News (Promise c)) raised ≡ promise_between 1 before.floors behind.floors) where
+      (tells : length before.floors ≡ length behind.floors →
+      option_map (λ (c : Consent). News (Promise c)) raised ≡ promise_between 1 before.floors behind.floors) where
     is_raised : option_map (λ (c : Consent). News (Promise c)) raised ≡ promise_between 1 before.floors behind.floors
     is_raised = tells (same-floors before behind follows sound)
 

@@ -1,5 +1,6 @@
 -- What stands at the front of bytes is taken back, and the rest then.
-use Rattle.std.proofs.Common.{◌≡◌, ℕ, ◌<◌, Bool, true, false, ◌==◌, List, [], ◌∷◌, ◌++◌, length, Option, Some, None, Result, Ok, Err, IsTrue, IsFalse, inl, inr, nat_le}
+use Rattle.std.proofs.Common.{◌≡◌, ℕ, ◌<◌, Bool, true, false, ◌==◌, List, [], ◌∷◌, ◌++◌}
+use Rattle.std.proofs.Common.{length, Option, Some, None, Result, Ok, Err, IsTrue, IsFalse, inl, inr, nat_le}
 use Rattle.std.proofs.Common.{refl, sym, ap, subst, ◌∙◌, arith, length-append, if◌then◌else◌}
 use Rattle.std.specs.Prelude.{find}
 use Rattle.std.specs.Option.{option_map}

@@ -40,6 +40,7 @@ TakenBy new l site (Ok true) = IsTrue (fits site l) × SiteStands new (with_last
 TakenBy new l site (Ok false) = IsFalse (fits site l) × StandsForSite new
 TakenBy new l site (Err fault) = StandsForSite new
 
+-- so it is for each site that it stood for
 abbrev pub TakesThing : Core → Core → Lasting → Result Bool NoMemory → Type 0
 TakesThing old new l result = (site : Site) → SiteStands old site → TakenBy new l site result
 

@@ -1,6 +1,6 @@
 //! A site that can end and start again: it puts what lasts of each request behind a log, and takes back what stands in one.
 //!
-//! The rules are stated in `docs/MODEL.md`, 'A site at rest'; how what lasts is spelled, in `docs/FORMATS.md`.
+//! The rules, and how what lasts is spelled, are stated in `docs/MODEL.md`, 'What lasts'.
 #![tactic(auto)]
 
 ghost use Rattle.std.specs.Prelude.{◌≡◌, ◌≤◌, length, IsTrue, IfOk};

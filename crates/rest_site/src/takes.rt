@@ -18,7 +18,8 @@ use wire_item::Reader;
 pub(crate) fn take_all(core: &mut SiteCore, alloc: Global, bytes: &[u8]) -> Result<bool, NoMemory>
     requires quiet { is_quiet core.old ≡ true }
     requires stands { StandsForSite core.old }
-    ensures taken { result ≡ Ok true → (site : Site) → SiteStands core.old site → (behind : Site) × (TakesBack site bytes.now behind × SiteStands core.new behind) }
+    ensures taken { result ≡ Ok true → (site : Site) → SiteStands core.old site
+        → (behind : Site) × (TakesBack site bytes.now behind × SiteStands core.new behind) }
     ensures refused { result ≡ Ok false → (site behind : Site) → SiteStands core.old site → TakesBack site bytes.now behind → ⊥ }
     ensures stands { StandsForSite core.new }
     ensures opening { opened_with core.new ≡ opened_with core.old }

@@ -83,5 +83,6 @@ returns-in-None-clause-items c = λ old behind noted stands follows.
     let kept = told-of c.store-in-None.result.now c.dag-in-None.result.now (λ rs ks. length (kept_states rs ks)) c.kept.result behind.dag behind.collected
     c.dag-in-None.ensures (c.store-in-None.ensures.stands behind stands.0) c.kept.ensures in
     collection-spelled c.args.before.now old behind noted c.known.result known (λ more. let other = c.if-before-known.false in omega (arith, more, other))
-    follows stands.1 c.raised.result (c.raised.ensures old behind noted stands) c.kept.result kept c.in-None.is c.args.log.now.items c.put_collection.new.log.items
+    follows stands.1 c.raised.result (c.raised.ensures old behind noted stands) c.kept.result kept c.in-None.is c.args.log.now.items
+    c.put_collection.new.log.items
     c.put_collection.ensures.items

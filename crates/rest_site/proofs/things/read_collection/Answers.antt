@@ -28,6 +28,9 @@ returns-then-count-ge1 c =
 pub returns-else-count-ge1 : goal.returns-else-count-ge1
 returns-else-count-ge1 c =
     let read = taken u32_front c.args.reader.now c.u32.new.self c.in_ok-count.count c.in_ok-count.ensures in
-    let unfit = false_from_ne_true (nat_le 1 c.in_ok-count.count) (λ t. let few = c.if-count-ge1.false in let many = leb-true 1 c.in_ok-count.count t in omega (arith, few, many)) in
+    let unfit = false_from_ne_true (nat_le 1 c.in_ok-count.count) (λ t.
+    let few = c.if-count-ge1.false in
+    let many = leb-true 1 c.in_ok-count.count t in
+    omega (arith, few, many)) in
     made-none Collection (only_if (nat_le 1) u32_front) c.args.reader.now
     (only_if-fails (nat_le 1) u32_front c.args.reader.now c.in_ok-count.count c.u32.new.self read unfit)
