@@ -1,5 +1,5 @@
 -- What lasted of an earlier site is taken back.
-use Rattle.std.specs.Prelude.{◌≡◌, ⊤, Bool, true, false, ◌&&◌, ◌==◌, length, [], ◌∷◌, is_none, Result, Ok, Err, IfOk, IsTrue, IsFalse}
+use Rattle.std.specs.Prelude.{◌≡◌, ℕ, ⊤, Bool, true, false, ◌&&◌, ◌==◌, length, [], ◌∷◌, is_none, Result, Ok, Err, IfOk, IsTrue, IsFalse}
 use Rattle.tardis_base.specs.declared.faults.NoMemory.{NoMemory as OutOfMemory}
 use Rattle.tardis_base.specs.declared.records.Record.{Record}
 use Rattle.tardis_base.specs.declared.replies.Refusal.TheVariants.{OpenConflict}
