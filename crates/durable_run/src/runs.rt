@@ -3,6 +3,7 @@
 ghost use Rattle.std.specs.Prelude.{◌≡◌, ◌⊎◌, ◌+◌, ◌<◌, ◌≤◌, ◌++◌, [], ℕ, List, length, IfOk, IfErr, ◌==◌, if◌then◌else◌};
 ghost use Rattle.tardis_base.specs.Sizes.{longest_trail, piece as piece_size};
 ghost use Rattle.tardis_io.specs.Told.{WhileTold};
+ghost use Rattle.tardis_io.specs.Moments.{with_take};
 ghost use Rattle.tardis_io.specs.Faults.{Rose};
 ghost use Rattle.frame_cut.specs.Frames.{IsCut};
 ghost use Rattle.disk_store.specs.Disks.{AsHonest};
