@@ -3,6 +3,8 @@
 ghost use Rattle.std.specs.Prelude.{◌≡◌, ◌-◌, ◌<◌, ◌≤◌, ◌++◌, ◌==◌, [], length, take, min, not, IfOk};
 ghost use Rattle.std.specs.Borrow.{sem};
 ghost use Rattle.std.specs.Io.BufRead.{Rests};
+ghost use Rattle.tardis_base.specs.declared.sizes.TheConstants.{PIECE};
+ghost use Rattle.frame_cut.specs.declared.cutters.TheConstants.{ROOM};
 ghost use Rattle.frame_cut.specs.Frames.{IsPartial};
 ghost use Rattle.frame_cut.specs.Cuts.{IsNext, Leaves};
 ghost use Rattle.frame_cut.specs.contracts.cutters.FrameCutter.{the_row};
@@ -11,10 +13,10 @@ use crate::heads::{Size, frame_size};
 use crate::moves::keep_rest;
 use std::alloc::Global;
 use std::marker::Model;
-use tardis_base::NoMemory;
+use tardis_base::{MAX_FRAMED, NoMemory, PIECE};
 
-/// A longest frame, and behind what may stand before its end a whole piece of 65,536 bytes.
-const ROOM: usize = 1_114_116;
+/// A longest frame, and behind what may stand before its end a whole piece.
+const ROOM: usize = MAX_FRAMED + PIECE;
 
 /// What stands at the front of the bytes that are held.
 #[derive(Clone, Copy)]
@@ -41,12 +43,13 @@ pub struct FrameCutter {
 
 impl Model for FrameCutter {
     ghost use Rattle.std.specs.Prelude.{List, ℕ, ◌≤◌, length, drop, vec_capacity};
+    ghost use Rattle.frame_cut.specs.declared.cutters.TheConstants.{ROOM};
 
     ghost Value = { List ℕ };
 
     ghost view = { λ c. drop c.start c.buf.items };
 
-    ghost invariant = { λ c. (c.start ≤ length c.buf.items) × (length c.buf.items ≤ 1114116) × (1114116 ≤ vec_capacity c.buf) };
+    ghost invariant = { λ c. (c.start ≤ length c.buf.items) × (length c.buf.items ≤ ROOM) × (ROOM ≤ vec_capacity c.buf) };
 }
 
 impl FrameCutter {
@@ -61,11 +64,11 @@ impl FrameCutter {
     }
 
     /// Takes a front of the piece, and answers how many bytes. After `Cut::NeedMore` it takes all of a piece of at
-    /// most 65,536 bytes, and at least one byte of any other.
+    /// most `PIECE` bytes, and at least one byte of any other.
     pub fn feed(&mut self, piece: &[u8]) -> usize
         ensures held { self.new ≡ self.old ++ take result piece.now }
-        ensures count { result ≡ min (length piece.now) (1114116 - length self.old) }
-        ensures whole { IsPartial self.old → length piece.now ≤ 65536 → result ≡ length piece.now }
+        ensures count { result ≡ min (length piece.now) (ROOM - length self.old) }
+        ensures whole { IsPartial self.old → length piece.now ≤ PIECE → result ≡ length piece.now }
         ensures some { IsPartial self.old → 0 < length piece.now → 0 < result }
     {
         if self.start > 0 {

@@ -3,6 +3,8 @@
 ghost use Rattle.std.specs.Prelude.{◌≡◌, ◌+◌, ◌-◌, ◌<◌, ◌≤◌, ◌++◌, [], length, take, min, IfOk};
 ghost use Rattle.std.specs.Borrow.{sem};
 ghost use Rattle.std.specs.Io.BufRead.{Rests};
+ghost use Rattle.tardis_base.specs.declared.sizes.TheConstants.{PIECE};
+ghost use Rattle.line_cut.specs.declared.cutters.TheConstants.{ROOM};
 ghost use Rattle.line_cut.specs.Lines.{IsLine};
 ghost use Rattle.line_cut.specs.Cuts.{IsNext, Leaves};
 ghost use Rattle.line_cut.specs.contracts.cutters.LineCutter.{the_row};
@@ -11,10 +13,10 @@ use crate::feeds::{Size, line_size};
 use crate::moves::{move_to_front, put_at};
 use std::alloc::Global;
 use std::marker::Model;
-use tardis_base::NoMemory;
+use tardis_base::{MAX_FRAME, NoMemory, PIECE};
 
-/// A longest line, and behind what may stand before its end a whole piece of 65,536 bytes.
-const ROOM: usize = 1_114_112;
+/// A longest line, and behind what may stand before its end a whole piece.
+const ROOM: usize = MAX_FRAME + PIECE;
 
 /// What stands at the front of the bytes that are held.
 #[derive(Clone, Copy)]
@@ -41,12 +43,13 @@ pub struct LineCutter {
 
 impl Model for LineCutter {
     ghost use Rattle.std.specs.Prelude.{List, ℕ, ◌≡◌, ◌-◌, ◌≤◌, length, take, drop};
+    ghost use Rattle.line_cut.specs.declared.cutters.TheConstants.{ROOM};
 
     ghost Value = { List ℕ };
 
     ghost view = { λ c. take (c.end - c.start) (drop c.start c.buf.items) };
 
-    ghost invariant = { λ c. (c.start ≤ c.end) × (c.end ≤ 1114112) × (length c.buf.items ≡ 1114112) };
+    ghost invariant = { λ c. (c.start ≤ c.end) × (c.end ≤ ROOM) × (length c.buf.items ≡ ROOM) };
 }
 
 impl LineCutter {
@@ -65,11 +68,11 @@ impl LineCutter {
     }
 
     /// Takes a front of the piece, and answers how many bytes. After `Cut::NeedMore` it takes all of a piece of at
-    /// most 65,536 bytes, and at least one byte of any other.
+    /// most `PIECE` bytes, and at least one byte of any other.
     pub fn feed(&mut self, piece: &[u8]) -> usize
         ensures held { self.new ≡ self.old ++ take result piece.now }
-        ensures count { result ≡ min (length piece.now) (1114112 - length self.old) }
-        ensures whole { IsLine self.old → length piece.now ≤ 65536 → result ≡ length piece.now }
+        ensures count { result ≡ min (length piece.now) (ROOM - length self.old) }
+        ensures whole { IsLine self.old → length piece.now ≤ PIECE → result ≡ length piece.now }
         ensures some { IsLine self.old → 0 < length piece.now → 0 < result }
     {
         if self.start > 0 {
