@@ -1,6 +1,7 @@
 -- A machine that keeps what lasts of its events.
 use Rattle.std.specs.Prelude.{◌≡◌, ℕ, List, [], ◌∷◌, ◌++◌, length}
 use Rattle.tardis_base.specs.Plain.{PlainMachine}
+use Rattle.log_groups.specs.declared.fronts.LogFront.{LogFront}
 use Rattle.rest_machine.specs.declared.resting.Resting.{Ghosts as AResting}
 
 -- a state; what lasted of its events so far, oldest first; and how many things that were whenever all were settled, the newest
@@ -26,6 +27,14 @@ with_settle kept = record { state = kept.state; things = kept.things; settles = 
 -- a state of which these things lasted, all of them settled
 abbrev pub starts : {S : Type 0} → S → List (List ℕ) → Kept S
 starts state things = record { state = state; things = things; settles = length things ∷ [] }
+
+-- the state with which a machine opened, and what its log says first, as one value: both stay as they are
+abbrev pub opens_with : {S : Type 0} → LogFront → S → Kept S
+opens_with front state = record {
+  state = state;
+  things = front.life ∷ [];
+  settles = front.sites ∷ front.own ∷ front.max_kept ∷ front.max_path ∷ front.max_sessions ∷ [];
+}
 
 module _ {M : Type 0} (m : AResting M) where
   -- the machine, and what lasts of its events

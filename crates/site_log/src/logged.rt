@@ -5,7 +5,7 @@ ghost use Rattle.std.proofs.Common.{inl};
 ghost use Rattle.rest_machine.specs.Rests.{most_lasting};
 ghost use Rattle.disk_store.specs.Disks.{AsHonest};
 ghost use Rattle.log_groups.specs.Items.{longest_body};
-ghost use Rattle.site_log.specs.Kept.{Kept, IsSettled, with_settle, logged};
+ghost use Rattle.site_log.specs.Kept.{Kept, IsSettled, with_settle, opens_with, logged};
 ghost use Rattle.site_log.specs.Images.{Mark};
 ghost use Rattle.site_log.specs.Files.{MayFail};
 ghost use Rattle.site_log.specs.Stood.{Stands, faults_of};
@@ -46,6 +46,7 @@ impl<M: Resting, K: BytewiseDisk> Logged<M, K> {
         ensures sure { M.plain.is_sure (actor, request.now) ≡ true → IsOk result }
         ensures failed { self.new.file.failed ≡ true → MayFail K.Disk self.old.file self.new.file }
         ensures still { self.old.file.failed ≡ true → self.new.file ≡ self.old.file }
+        ensures front { self.new.file.front ≡ self.old.file.front }
         ensures opening { M.opening self.new.machine ≡ M.opening self.old.machine }
     {
         self.make_way();
@@ -83,6 +84,7 @@ impl<M: Resting, K: BytewiseDisk> Logged<M, K> {
         ensures still { self.old.file.failed ≡ true → self.new.file ≡ self.old.file }
         ensures cause { OnErr result (MayFail K.Disk self.old.file self.new.file) }
         ensures later { K.faults self.old.file.disk ≤ K.faults self.new.file.disk }
+        ensures front { self.new.file.front ≡ self.old.file.front }
         ensures opening { M.opening self.new.machine ≡ M.opening self.old.machine }
     {
         group_laws(); // for the proof alone
@@ -101,6 +103,7 @@ impl<M: Resting, K: BytewiseDisk> Logged<M, K> {
         ensures failed { self.new.file.failed ≡ true → MayFail K.Disk self.old.file self.new.file }
         ensures still { self.old.file.failed ≡ true → self.new.file ≡ self.old.file }
         ensures stands { (kept : Kept M.Plain) (marks : List Mark) → Stands M.Resting K.Disk self.old kept marks → Stands M.Resting K.Disk self.new kept marks }
+        ensures front { self.new.file.front ≡ self.old.file.front }
         ensures opening { M.opening self.new.machine ≡ M.opening self.old.machine }
     {
         if self.waiting.has_room() {
@@ -119,6 +122,7 @@ impl<M: Resting, K: BytewiseDisk> Logged<M, K> {
         ensures stands { (kept : Kept M.Plain) (marks : List Mark) → Stands M.Resting K.Disk self.old kept marks → Stands M.Resting K.Disk self.new kept marks }
         ensures later { K.faults self.old.file.disk ≤ K.faults self.new.file.disk }
         ensures machine { self.new.machine ≡ self.old.machine }
+        ensures front { self.new.file.front ≡ self.old.file.front }
     {
         if self.file.has_failed() {
             self.waiting.clear();
@@ -156,7 +160,7 @@ impl<M: Resting, K: BytewiseDisk> Settling for Logged<M, K> {
 
     ghost stands = { λ l kept. (marks : List Mark) × Stands M.Resting K.Disk l kept marks };
 
-    ghost opening = { λ l. record { state = M.opening l.machine; things = []; settles = [] } };
+    ghost opening = { λ l. opens_with l.file.front (M.opening l.machine) };
 
     ghost is_settled = { λ kept. IsSettled kept };
 
