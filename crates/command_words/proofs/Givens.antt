@@ -1,9 +1,9 @@
 -- The values of an option, one after another.
-use Rattle.std.proofs.Common.{ℕ, ◌<◌, true, false, List, [], ◌∷◌, ◌++◌, length, map, Option, Some, None, ◌≡◌, ◌∙◌, refl, sym, ap, arith, append_assoc}
+use Rattle.std.proofs.Common.{ℕ, ◌<◌, true, false, List, [], ◌∷◌, ◌++◌, length, map, Option, Some, None, option_map, ◌≡◌, ◌∙◌, refl, sym, ap, arith, append_assoc}
 use Rattle.std.specs.Prelude.{bytes_eq, filter}
 use Rattle.std.proofs.lemmas.Bool.{cond-true, cond-false}
 use Rattle.command_words.specs.Settings.{Setting, values}
-use Rattle.command_words.specs.Values.{needed, number_or, flag, address, once}
+use Rattle.command_words.specs.Values.{needed, number_or, flag, address, address_or_none, once}
 use Rattle.command_words.specs.Given.{IsGiven}
 use Rattle.command_words.specs.declared.settings.Given.{Given}
 
@@ -57,6 +57,10 @@ address_twice [] two = absurd (omega (arith, two))
 address_twice (v ∷ []) two = absurd (omega (arith, two))
 address_twice (None ∷ w ∷ more) two = refl
 address_twice (Some v ∷ w ∷ more) two = refl
+
+pub address_or_none_twice : (found : List (Option (List ℕ))) → 1 < length found → None ≡ address_or_none found
+address_or_none_twice [] two = absurd (omega (arith, two))
+address_or_none_twice (v ∷ more) two = ap (option_map (λ word. Some word)) (address_twice (v ∷ more) two)
 
 pub once_twice : (found : List (Option (List ℕ))) → 1 < length found → None ≡ once found
 once_twice [] two = absurd (omega (arith, two))

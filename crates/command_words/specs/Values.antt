@@ -1,6 +1,6 @@
 -- The values of options.
 use Rattle.std.specs.Prelude.{ℕ, Bool, true, false, ◌==◌, ◌&&◌, not, length, List, [], ◌∷◌, Option, None, Some, nat_le, nat_lt, nat_eq, filter_map}
-use Rattle.std.specs.Prelude.{option_and_then, if◌then◌else◌, slice_index}
+use Rattle.std.specs.Prelude.{option_and_then, option_map, if◌then◌else◌, slice_index}
 use Rattle.std.specs.Bool.{then_some}
 use Rattle.std.specs.List.{list_all, before_first, after_first}
 use Rattle.std.specs.Str.Parse.{digits_value}
@@ -48,6 +48,11 @@ is_address word = is_within 1 200 (length word) && not (nat_eq (slice_index word
 abbrev pub address : List (Option (List ℕ)) → Option (List ℕ)
 address (Some word ∷ []) = if is_address word then Some word else None
 address _ = None
+
+-- the address of an option that may be left out
+abbrev pub address_or_none : List (Option (List ℕ)) → Option (Option (List ℕ))
+address_or_none [] = Some None
+address_or_none (value ∷ more) = option_map (λ word. Some word) (address (value ∷ more))
 
 abbrev pub is_some_address : Option (List ℕ) → Bool
 is_some_address None = false

@@ -4,7 +4,7 @@ ghost use Rattle.std.specs.Prelude.{◌≡◌, ◌<◌, ◌≤◌, ℕ, List, Op
 ghost use Rattle.command_words.specs.Servings.{serving_by};
 ghost use Rattle.std.specs.String.{string_bytes};
 ghost use Rattle.command_words.specs.Settings.{settings, values};
-ghost use Rattle.command_words.specs.Values.{needed, number_or, flag, address, addresses};
+ghost use Rattle.command_words.specs.Values.{needed, number_or, flag, address, address_or_none, addresses};
 ghost use Rattle.command_words.specs.Forms.{place_alone, place, world, serving, serving_at, load, Serving, AsLoad};
 ghost use Rattle.command_words.specs.Commands.{serving_of};
 ghost use Rattle.command_words.specs.Places.{IsPlace};
@@ -66,6 +66,25 @@ pub(crate) fn read_address<'a>(words: &'a [String], name: &str) -> Option<&'a st
     match how_given(words, name) {
         Given::Value(word) => { if is_address(word) { Some(word) } else { None } }
         Given::Absent => None,
+        Given::Bare => None,
+        Given::Twice => None,
+    }
+}
+
+/// The address of an option that may be left out.
+pub(crate) fn read_address_or_none<'a>(words: &'a [String], name: &str) -> Option<Option<&'a str>>
+    ensures { option_map (λ found. option_map (λ word. word.now) found) result
+        ≡ address_or_none (values name.now (settings (map (λ w. string_bytes w) words.now))) }
+{
+    match how_given(words, name) {
+        Given::Absent => Some(None),
+        Given::Value(word) => {
+            if is_address(word) {
+                Some(Some(word))
+            } else {
+                None
+            }
+        }
         Given::Bare => None,
         Given::Twice => None,
     }

@@ -3,6 +3,7 @@
 //! The forms are stated in `docs/COMMANDS.md`.
 #![tactic(auto)]
 
+mod behind;
 mod commands;
 mod daemons;
 mod forms;
@@ -16,6 +17,7 @@ mod placed;
 mod reading;
 mod settings;
 
+pub use behind::words_behind_name;
 pub use commands::{Command, Place, ServePlan, WordsFault};
 pub use daemons::{DaemonPlan, read_daemon};
 pub use helps::{Help, help_of};

@@ -1,6 +1,6 @@
 //! The program over its arguments, its input and its output.
 
-ghost use Rattle.std.specs.Prelude.{◌≡◌, ◌≤◌, ◌⊎◌, List, ℕ, map, drop, IfOk};
+ghost use Rattle.std.specs.Prelude.{◌≡◌, ◌≤◌, ◌⊎◌, List, ℕ, map, drop};
 ghost use Rattle.std.specs.String.{string_bytes};
 ghost use Rattle.std.specs.Vec.Iter.{into_iter_items};
 ghost use Rattle.tardis_io.specs.Faults.{Rose};
@@ -15,7 +15,7 @@ ghost use Rattle.tardis_main.specs.Program.{Audits, Autos, Durables, Exports, Im
 
 use crate::helps::{USAGE, VERSION, help_text};
 use crate::tardis;
-use command_words::{Help, commands_are_at_a_site, help_of};
+use command_words::{Help, commands_are_at_a_site, help_of, words_behind_name};
 use disk_store::Store;
 use std::alloc::Global;
 use std::env::Args;
@@ -95,22 +95,6 @@ pub fn carry_out<I: Source, O: Sink, G: Gate, D: Dial + Send, S: Store, R: Threa
             Status::NoMemory
         }
     }
-}
-
-/// The arguments without the first.
-fn words_behind_name(alloc: Global, args: Args) -> Result<Vec<String>, NoMemory>
-    ensures { IfOk result (λ words. words.items ≡ drop 1 (into_iter_items args)) }
-{
-    let mut rest = args;
-    let _ = rest.next();
-    let mut words = Vec::new(alloc);
-    while let Some(word) = rest.next() {
-        match words.push(word) {
-            Ok(()) => {}
-            Err(_) => return Err(NoMemory),
-        }
-    }
-    Ok(words)
 }
 
 /// Carries out the command that the words name.

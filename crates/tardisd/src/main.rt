@@ -1,4 +1,4 @@
-//! The server: makes the real edge, hands it with its words to `tardisd_main`, and tells how it ended.
+//! The server: makes the real edge and store, hands them with its words to `tardisd_main`, and tells how it ended.
 //!
 //! The words and the statuses are stated in `docs/COMMANDS.md`.
 #![tactic(auto)]
@@ -9,12 +9,14 @@ ghost use Rattle.tardisd_main.specs.Ends.{end_number};
 
 mod doors;
 
+use disk_forms::FileStore;
 use doors::SocketDoors;
 use std::alloc::Global;
 use std::env::{self, Args};
 use std::hash::RandomState;
 use std::io;
 use std::process::ExitCode;
+use std::random::RandomSource;
 use tardis_io::StdOut;
 use tardisd_main::{DaemonEnd, carry_out};
 
@@ -29,9 +31,10 @@ fn main(rt: HostRuntime) -> ExitCode {
 struct Given {
     args: Args,
     keys: RandomState,
+    life: [u8; 16],
 }
 
-/// The arguments of the program, and a seed for its hashing.
+/// The arguments of the program, a seed for its hashing, and the life of a new file.
 fn asked(rt: &HostRuntime) -> Result<Given, DaemonEnd> {
     let args = match env::args(rt) {
         Ok(args) => args,
@@ -39,14 +42,22 @@ fn asked(rt: &HostRuntime) -> Result<Given, DaemonEnd> {
         // words that are no text have no form
         Err(_) => return Err(DaemonEnd::Usage),
     };
-    match RandomState::new(rt) {
-        Ok(keys) => Ok(Given { args, keys }),
+    match drawn(rt) {
+        Ok((keys, life)) => Ok(Given { args, keys, life }),
         // a system without random bytes to give is told as one without memory
         Err(_) => Err(DaemonEnd::NoMemory),
     }
 }
 
-/// Does what the arguments ask for, over sockets.
+/// What is drawn at random: a seed, and 16 bytes.
+fn drawn(rt: &HostRuntime) -> io::Result<(RandomState, [u8; 16])> {
+    let keys = RandomState::new(rt)?;
+    let mut life = [0; 16];
+    rt.fill_bytes(&mut life)?;
+    Ok((keys, life))
+}
+
+/// Does what the arguments ask for, over sockets and files.
 fn run(
     rt: &HostRuntime,
     alloc: Global,
@@ -55,8 +66,18 @@ fn run(
 ) -> DaemonEnd {
     let mut output = output;
     match given {
-        Ok(Given { args, keys }) => {
-            carry_out(alloc, keys, args, &mut SocketDoors::new(rt), &mut output)
+        Ok(Given { args, keys, life }) => {
+            let mut doors = SocketDoors::new(rt);
+            let mut store = FileStore::new(rt);
+            carry_out(
+                alloc,
+                keys,
+                life,
+                args,
+                &mut doors,
+                &mut store,
+                &mut output,
+            )
         }
         Err(ended) => ended,
     }

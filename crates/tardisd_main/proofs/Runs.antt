@@ -16,7 +16,7 @@ use Rattle.session_core.specs.Machine.{SiteStands}
 use Rattle.tardisd_main.specs.Sites.{upkeep_rule, ServesPlace}
 
 -- a run, told of less of what is reached
-weaker : {S : Type 0} (w : PlainSettling S) (rule : Option UpkeepRule) (to told : S → Type 0) (s : S) (end : End) (before after : Option (List Seen))
+pub weaker : {S : Type 0} (w : PlainSettling S) (rule : Option UpkeepRule) (to told : S → Type 0) (s : S) (end : End) (before after : Option (List Seen))
     → ((t : S) → to t → told t) → IsRun w rule to s end before after → IsRun w rule told s end before after
 weaker w rule to told s end before after tells run =
     record {

@@ -1,16 +1,19 @@
 -- What the words of the server come to.
 use Rattle.std.specs.Prelude.{◌≡◌, ℕ, ◌++◌, ◌≤◌, ◌⊎◌, List, length, Option, Some, None, Result, Ok, Err}
+use Rattle.disk_store.specs.declared.disks.Disk.{Ghosts as ADisk}
+use Rattle.disk_store.specs.declared.stores.Store.{Ghosts as AStore}
 use Rattle.command_words.specs.Settings.{settings}
 use Rattle.command_words.specs.Daemons.{Daemon, daemon}
 use Rattle.command_words.specs.Helps.{AskUsage, AskVersion}
 use Rattle.hub.specs.declared.ports.Seen.{Seen}
 use Rattle.hub.specs.declared.serves.End.{End}
-use Rattle.hub.specs.declared.serves.End.TheVariants.{Stopped, Unsettled, Spent as AllTurns}
+use Rattle.hub.specs.declared.serves.End.TheVariants.{Unsettled}
 use Rattle.tardisd_main.specs.declared.endings.GateFault.{GateFault}
-use Rattle.tardisd_main.specs.declared.endings.GateFault.TheVariants.{Lost}
 use Rattle.tardisd_main.specs.declared.endings.DaemonEnd.{DaemonEnd}
-use Rattle.tardisd_main.specs.declared.endings.DaemonEnd.TheVariants.{Told, Usage, WriteFailed, NoMemory, Gate, Spent}
+use Rattle.tardisd_main.specs.declared.endings.DaemonEnd.TheVariants.{Told, WriteFailed, NoMemory, Gate}
+use Rattle.tardisd_main.specs.Ends.{end_by}
 use Rattle.tardisd_main.specs.Sites.{ServesPlace}
+use Rattle.tardisd_main.specs.Stores.{KeepsAs}
 
 -- the words ask for nothing that the server does
 abbrev pub AreNone : List (List ℕ) → Type 0
@@ -23,16 +26,12 @@ Tells text WriteFailed before after = (lost : List ℕ) × ((after ++ lost ≡ b
 Tells text NoMemory before after = after ≡ before
 Tells text _ before after = ⊥
 
--- how a server ends whose connections ended so; a site in memory can always settle
-abbrev pub EndsBy : End → DaemonEnd → Type 0
-EndsBy Stopped end = end ≡ Gate Lost
-EndsBy AllTurns end = end ≡ Spent
-EndsBy Unsettled end = ⊥
-
--- what becomes of an edge that was asked to open: over it the site at the place is served, or there was no memory for that
+-- What becomes of an edge that was asked to open: over it the site at the place is served, or there was no memory for that. A site in
+-- memory can always settle.
 abbrev pub EndsAs : {P : Type 0} → (P → Option (List Seen)) → Result P GateFault → Daemon → DaemonEnd → Type 0
 EndsAs {P} seen (Ok ports) asked end =
-    (end ≡ NoMemory) ⊎ ((left : P) × (why : End) × ServesPlace asked.place asked.tidy why (seen ports) (seen left) × EndsBy why end)
+    (end ≡ NoMemory)
+    ⊎ ((left : P) × (why : End) × ServesPlace asked.place asked.tidy why (seen ports) (seen left) × (why ≡ Unsettled → ⊥) × (end ≡ end_by why))
 EndsAs seen (Err fault) asked end = end ≡ Gate fault
 
 module _ {D P : Type 0} (opens : List ℕ → Result P GateFault → Type 0) (seen : P → Option (List Seen)) where
@@ -42,6 +41,14 @@ module _ {D P : Type 0} (opens : List ℕ → Result P GateFault → Type 0) (se
   ServesAs old new asked end =
       ((end ≡ NoMemory) × (new ≡ old)) ⊎ ((opened : Result P GateFault) × opens asked.listen opened × EndsAs seen opened asked end)
 
-  -- words of a server: the site at their place is served at their address, and nothing is written
-  abbrev pub Serves : {O : Type 0} → D → D → O → O → List (List ℕ) → DaemonEnd → Type 0
-  Serves old new before after words end = (asked : Daemon) → daemon (settings words) ≡ Some asked → ServesAs old new asked end × (after ≡ before)
+  -- words of a server without a file: the site at their place is served at their address, no file is opened, and nothing is written
+  abbrev pub Serves : {S O : Type 0} → D → D → S → S → O → O → List (List ℕ) → DaemonEnd → Type 0
+  Serves old new was now before after words end =
+      (asked : Daemon) → daemon (settings words) ≡ Some asked → asked.file ≡ None → ServesAs old new asked end × (now ≡ was) × (after ≡ before)
+
+-- words of a server with a file: the site at their place is kept in it, and served at their address, and nothing is written
+abbrev pub KeepsFile : {D P S K O : Type 0} → (List ℕ → Result P GateFault → Type 0) → (P → Option (List Seen)) → AStore S K → ADisk K → List ℕ → D → D
+    → S → S → O → O → List (List ℕ) → DaemonEnd → Type 0
+KeepsFile opens seen st k life old new was now before after words end =
+    (asked : Daemon) (path : List ℕ) → daemon (settings words) ≡ Some asked → asked.file ≡ Some path
+    → KeepsAs opens seen st k life asked path old new was now end × (after ≡ before)

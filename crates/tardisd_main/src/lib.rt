@@ -6,13 +6,15 @@
 mod asks;
 mod doors;
 mod endings;
+mod files;
 mod helps;
 mod programs;
 mod sites;
 
 pub use asks::plan_of;
-pub use doors::Doors;
-pub use endings::{DaemonEnd, GateFault};
+pub use doors::{Doors, FoundSite};
+pub use endings::{DaemonEnd, FileFault, GateFault};
+pub use files::serve_file;
 pub use helps::{USAGE, VERSION, help_text};
 pub use programs::{carry_out, tardisd};
 pub use sites::serve_place;

@@ -1,6 +1,6 @@
 //! The server by its words.
 
-ghost use Rattle.std.specs.Prelude.{◌≡◌, ◌≤◌, ◌⊎◌, None, Some, map, drop, IfOk};
+ghost use Rattle.std.specs.Prelude.{◌≡◌, ◌≤◌, ◌⊎◌, ℕ, List, None, Some, map, drop};
 ghost use Rattle.std.specs.String.{string_bytes};
 ghost use Rattle.std.specs.Vec.Iter.{into_iter_items};
 ghost use Rattle.tardis_io.specs.Faults.{Rose};
@@ -8,15 +8,17 @@ ghost use Rattle.tardis_io.specs.Told.{WhileTold};
 ghost use Rattle.command_words.specs.Helps.{AskUsage, AskVersion};
 ghost use Rattle.command_words.specs.Daemons.{daemon_of};
 ghost use Rattle.command_words.specs.Places.{IsPlace};
-ghost use Rattle.tardisd_main.specs.Runs.{AreNone, EndsBy, Serves, ServesAs, Tells};
+ghost use Rattle.tardisd_main.specs.Runs.{AreNone, KeepsFile, Serves, ServesAs, Tells};
+ghost use Rattle.tardisd_main.specs.Stores.{KeepsAs};
 
 use crate::asks::plan_of;
 use crate::doors::Doors;
-use crate::endings::{DaemonEnd, GateFault};
+use crate::endings::{DaemonEnd, ending_of};
+use crate::files::serve_file;
 use crate::helps::{USAGE, VERSION, help_text};
 use crate::sites::serve_place;
-use command_words::{DaemonPlan, Help, help_of};
-use hub::End;
+use command_words::{DaemonPlan, Help, help_of, words_behind_name};
+use disk_store::{BytewiseDisk, Store};
 use std::alloc::Global;
 use std::env::Args;
 use std::hash::RandomState;
@@ -24,71 +26,64 @@ use tardis_base::NoMemory;
 use tardis_io::{Sink, WriteFault, write_all};
 
 /// Does what a program's arguments ask for, of which the first is the program's name: `tardisd` over the others.
-pub fn carry_out<D: Doors, O: Sink>(
+pub fn carry_out<D: Doors, K: BytewiseDisk, S: Store<Disk = K>, O: Sink>(
     alloc: Global,
     keys: RandomState,
+    life: [u8; 16],
     args: Args,
     doors: &mut D,
+    store: &mut S,
     output: &mut O,
 ) -> DaemonEnd
     ensures usage { result ≡ DaemonEnd.Usage → AreNone (map (λ w. string_bytes w) (drop 1 (into_iter_items args))) }
     ensures none { AreNone (map (λ w. string_bytes w) (drop 1 (into_iter_items args)))
-        → ((result ≡ DaemonEnd.Usage) ⊎ (result ≡ DaemonEnd.NoMemory)) × (doors.new ≡ doors.old) × (output.new ≡ output.old) }
+        → ((result ≡ DaemonEnd.Usage) ⊎ (result ≡ DaemonEnd.NoMemory)) × (doors.new ≡ doors.old) × (store.new ≡ store.old) × (output.new ≡ output.old) }
     ensures told_usage { AskUsage (map (λ w. string_bytes w) (drop 1 (into_iter_items args)))
-        → (doors.new ≡ doors.old) × WhileTold (O.given output.old) (O.given output.new) (Tells USAGE.now result) }
+        → (doors.new ≡ doors.old) × (store.new ≡ store.old) × WhileTold (O.given output.old) (O.given output.new) (Tells USAGE.now result) }
     ensures told_version { AskVersion (map (λ w. string_bytes w) (drop 1 (into_iter_items args)))
-        → (doors.new ≡ doors.old) × WhileTold (O.given output.old) (O.given output.new) (Tells VERSION.now result) }
-    ensures serve { Serves D.opens D.Ports.seen doors.old doors.new output.old output.new
+        → (doors.new ≡ doors.old) × (store.new ≡ store.old) × WhileTold (O.given output.old) (O.given output.new) (Tells VERSION.now result) }
+    ensures serve { Serves D.opens D.Ports.seen doors.old doors.new store.old store.new output.old output.new
+        (map (λ w. string_bytes w) (drop 1 (into_iter_items args))) result }
+    ensures keep { KeepsFile D.opens D.Ports.seen S.Store K.Disk life doors.old doors.new store.old store.new output.old output.new
         (map (λ w. string_bytes w) (drop 1 (into_iter_items args))) result }
     ensures write_later { O.faults output.old ≤ O.faults output.new }
     ensures write { result ≡ DaemonEnd.WriteFailed → Rose (O.faults output.old) (O.faults output.new) }
 {
     match words_behind_name(alloc, args) {
-        Ok(words) => tardisd(alloc, keys, words.as_slice(), doors, output),
+        Ok(words) => tardisd(alloc, keys, life, words.as_slice(), doors, store, output),
         Err(NoMemory) => DaemonEnd::NoMemory,
     }
 }
 
-/// The arguments without the first.
-fn words_behind_name(alloc: Global, args: Args) -> Result<Vec<String>, NoMemory>
-    ensures { IfOk result (λ words. words.items ≡ drop 1 (into_iter_items args)) }
-{
-    let mut rest = args;
-    let _ = rest.next();
-    let mut words = Vec::new(alloc);
-    while let Some(word) = rest.next() {
-        match words.push(word) {
-            Ok(()) => {}
-            Err(_) => return Err(NoMemory),
-        }
-    }
-    Ok(words)
-}
-
 /// Does what the words ask for: tells of the program, or opens the edge at their address and serves the site at their place
-/// over the connections that come, until the edge can't be waited for. Words without a form are `Usage`.
-pub fn tardisd<D: Doors, O: Sink>(
+/// over the connections that come, until the edge can't be waited for. With a file the site is read from it first, and kept in
+/// it; one that is new gets this life. Words without a form are `Usage`.
+pub fn tardisd<D: Doors, K: BytewiseDisk, S: Store<Disk = K>, O: Sink>(
     alloc: Global,
     keys: RandomState,
+    life: [u8; 16],
     words: &[String],
     doors: &mut D,
+    store: &mut S,
     output: &mut O,
 ) -> DaemonEnd
     ensures usage { result ≡ DaemonEnd.Usage → AreNone (map (λ w. string_bytes w) words.now) }
     ensures none { AreNone (map (λ w. string_bytes w) words.now)
-        → (result ≡ DaemonEnd.Usage) × (doors.new ≡ doors.old) × (output.new ≡ output.old) }
+        → (result ≡ DaemonEnd.Usage) × (doors.new ≡ doors.old) × (store.new ≡ store.old) × (output.new ≡ output.old) }
     ensures told_usage { AskUsage (map (λ w. string_bytes w) words.now)
-        → (doors.new ≡ doors.old) × WhileTold (O.given output.old) (O.given output.new) (Tells USAGE.now result) }
+        → (doors.new ≡ doors.old) × (store.new ≡ store.old) × WhileTold (O.given output.old) (O.given output.new) (Tells USAGE.now result) }
     ensures told_version { AskVersion (map (λ w. string_bytes w) words.now)
-        → (doors.new ≡ doors.old) × WhileTold (O.given output.old) (O.given output.new) (Tells VERSION.now result) }
-    ensures serve { Serves D.opens D.Ports.seen doors.old doors.new output.old output.new (map (λ w. string_bytes w) words.now) result }
+        → (doors.new ≡ doors.old) × (store.new ≡ store.old) × WhileTold (O.given output.old) (O.given output.new) (Tells VERSION.now result) }
+    ensures serve { Serves D.opens D.Ports.seen doors.old doors.new store.old store.new output.old output.new (map (λ w. string_bytes w) words.now) result }
+    ensures keep { KeepsFile D.opens D.Ports.seen S.Store K.Disk life doors.old doors.new store.old store.new output.old output.new
+        (map (λ w. string_bytes w) words.now) result }
     ensures write_later { O.faults output.old ≤ O.faults output.new }
     ensures write { result ≡ DaemonEnd.WriteFailed → Rose (O.faults output.old) (O.faults output.new) }
 {
     match help_of(words) {
         Some(help) => tell(help, output),
         None => match plan_of(words) {
-            Ok(plan) => open_and_serve(alloc, keys, plan, doors),
+            Ok(plan) => serve_plan(alloc, keys, life, plan, doors, store),
             Err(refused) => refused,
         },
     }
@@ -108,7 +103,28 @@ fn tell<O: Sink>(help: Help, output: &mut O) -> DaemonEnd
     }
 }
 
-/// Opens the edge at the plan's address, and serves the site at its place.
+/// Serves the site at the plan's place, from its file where it has one.
+fn serve_plan<D: Doors, K: BytewiseDisk, S: Store<Disk = K>>(
+    alloc: Global,
+    keys: RandomState,
+    life: [u8; 16],
+    plan: DaemonPlan<'_>,
+    doors: &mut D,
+    store: &mut S,
+) -> DaemonEnd
+    requires place { IsPlace plan.place }
+    ensures memory { (daemon_of plan.entry).file ≡ None → ServesAs D.opens D.Ports.seen doors.old doors.new (daemon_of plan.entry) result × (store.new ≡ store.old) }
+    ensures file { (path : List ℕ) → (daemon_of plan.entry).file ≡ Some path
+        → KeepsAs D.opens D.Ports.seen S.Store K.Disk life (daemon_of plan.entry) path doors.old doors.new store.old store.new result }
+    ensures neither { (result ≡ DaemonEnd.Usage → ⊥) × (result ≡ DaemonEnd.WriteFailed → ⊥) }
+{
+    match plan.file {
+        None => open_and_serve(alloc, keys, plan, doors),
+        Some(path) => serve_file(alloc, keys, life, plan, path, doors, store),
+    }
+}
+
+/// Opens the edge at the plan's address, and serves the site at its place, which is in memory.
 fn open_and_serve<D: Doors>(
     alloc: Global,
     keys: RandomState,
@@ -120,24 +136,12 @@ fn open_and_serve<D: Doors>(
 {
     match doors.open(plan.listen) {
         Ok(mut ports) => {
-            doors.announce(plan.place, plan.listen);
+            doors.announce(plan.place, plan.listen, None);
             match serve_place(alloc, keys, plan.place, plan.tidy, &mut ports) {
                 Ok(end) => ending_of(end),
                 Err(NoMemory) => DaemonEnd::NoMemory,
             }
         }
         Err(fault) => DaemonEnd::Gate(fault),
-    }
-}
-
-/// How a server ends whose connections ended so.
-fn ending_of(end: End) -> DaemonEnd
-    requires settled { end ≡ End.Unsettled → ⊥ }
-    ensures { EndsBy end result }
-{
-    match end {
-        End::Stopped => DaemonEnd::Gate(GateFault::Lost),
-        End::Spent => DaemonEnd::Spent,
-        End::Unsettled => unreachable!(),
     }
 }

@@ -62,7 +62,7 @@ fn serve_machine<M: Machine, P: Ports>(
 }
 
 /// The upkeep of a site, with `tidy`.
-fn upkeep_of(tidy: bool) -> Option<Upkeep<'static>>
+pub(crate) fn upkeep_of(tidy: bool) -> Option<Upkeep<'static>>
     ensures rule { option_map rule_of result ≡ upkeep_rule tidy }
     ensures often { IfSome (option_map rule_of result) (λ rule. 0 < rule.after) }
 {

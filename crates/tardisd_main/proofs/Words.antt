@@ -1,0 +1,112 @@
+-- What the words of a server come to, by the calls that it makes for them.
+use Rattle.std.proofs.Common.{◌≡◌, ◌⊎◌, ⊎_elim, ◌∙◌, ℕ, true, false, List, Option, Some, None, Result, Ok, Err, sym, ap, subst}
+use Rattle.disk_store.specs.declared.disks.Disk.{Ghosts as ADisk}
+use Rattle.disk_store.specs.declared.stores.Store.{Ghosts as AStore}
+use Rattle.command_words.specs.declared.daemons.DaemonPlan.{DaemonPlan}
+use Rattle.command_words.specs.Settings.{settings}
+use Rattle.command_words.specs.Daemons.{Daemon, daemon, daemon_of}
+use Rattle.hub.specs.declared.ports.Seen.{Seen}
+use Rattle.hub.specs.declared.serves.End.{End}
+use Rattle.hub.specs.declared.serves.End.TheVariants.{Stopped, Unsettled, Spent as AllTurns}
+use Rattle.log_groups.specs.declared.fronts.LogFront.{LogFront}
+use Rattle.plain_site.specs.Site.{Site}
+use Rattle.site_log.specs.declared.ends.OpenEnd.{OpenEnd}
+use Rattle.site_log.specs.declared.ends.OpenEnd.TheVariants.{Disk as DiskFailed, NotALog, OtherVersion, BadFront, OtherSite, OtherLimits, Damaged, Unfit, NoMemory as NoMemoryLeft}
+use Rattle.site_log.specs.Kept.{starts}
+use Rattle.tardisd_main.specs.declared.endings.GateFault.{GateFault}
+use Rattle.tardisd_main.specs.declared.endings.FileFault.TheVariants.{InUse, Refused}
+use Rattle.tardisd_main.specs.declared.endings.DaemonEnd.{DaemonEnd}
+use Rattle.tardisd_main.specs.declared.endings.DaemonEnd.TheVariants.{Usage, WriteFailed, NoMemory, Gate, File}
+use Rattle.tardisd_main.specs.Ends.{end_by}
+use Rattle.tardisd_main.specs.Sites.{ServesPlace}
+use Rattle.tardisd_main.specs.Files.{Keeps, ServesFile, IsRefused, not_opened}
+use Rattle.tardisd_main.specs.Stores.{EndsKept, ServedFrom, NothingAsked, NoFile, WithFile, KeepsAs}
+use Rattle.tardisd_main.specs.Runs.{EndsAs, ServesAs, KeepsFile}
+
+-- an end of words that were understood, and of which nothing had to be written
+abbrev pub Served : DaemonEnd → Type 0
+Served Usage = ⊥
+Served WriteFailed = ⊥
+Served end = Unit {0}
+
+ends_so : (end other : DaemonEnd) → end ≡ other → Served other → Served end
+ends_so end other is served = subst (λ (e : DaemonEnd). Served e) (sym is) served
+
+pub neither : (end : DaemonEnd) → Served end → (end ≡ Usage → ⊥) × (end ≡ WriteFailed → ⊥)
+neither end served = (λ is. subst (λ (e : DaemonEnd). Served e) is served, λ is. subst (λ (e : DaemonEnd). Served e) is served)
+
+served_by : (why : End) → Served (end_by why)
+served_by Stopped = tt
+served_by AllTurns = tt
+served_by Unsettled = tt
+
+refused_by : (why : OpenEnd) → Served (not_opened why)
+refused_by NotALog = tt
+refused_by (OtherVersion version) = tt
+refused_by BadFront = tt
+refused_by (OtherSite front) = tt
+refused_by (OtherLimits front) = tt
+refused_by (Damaged place) = tt
+refused_by (Unfit place) = tt
+refused_by NoMemoryLeft = tt
+refused_by DiskFailed = tt
+
+over_edge : {P : Type 0} (seen : P → Option (List Seen)) (opened : Result P GateFault) (asked : Daemon) (end : DaemonEnd) → EndsAs seen opened asked end → Served end
+over_edge {P} seen (Ok ports) asked end became =
+    ⊎_elim (λ (is : end ≡ NoMemory). ends_so end NoMemory is tt)
+    (λ (p : (left : P) × (why : End) × ServesPlace asked.place asked.tidy why (seen ports) (seen left) × (why ≡ Unsettled → ⊥) × (end ≡ end_by why)).
+    ends_so end (end_by p.1.0) p.1.1.1.1 (served_by p.1.0)) became
+over_edge {P} seen (Err fault) asked end is = ends_so end (Gate fault) is tt
+
+pub serves_as : {D P : Type 0} (opens : List ℕ → Result P GateFault → Type 0) (seen : P → Option (List Seen)) (old new : D) (asked : Daemon) (end : DaemonEnd)
+    → ServesAs opens seen old new asked end → Served end
+serves_as {D} {P} opens seen old new asked end served =
+    ⊎_elim (λ (p : (end ≡ NoMemory) × (new ≡ old)). ends_so end NoMemory p.0 tt)
+    (λ (p : (opened : Result P GateFault) × opens asked.listen opened × EndsAs seen opened asked end). over_edge seen p.0 asked end p.1.1) served
+
+kept_over : {P K : Type 0} (seen : P → Option (List Seen)) (k : ADisk K) (asked : Daemon) (end : DaemonEnd) (front : LogFront) (bodies : List (List ℕ)) (site : Site)
+    (back : K) (opened : Result P GateFault) → EndsKept seen k asked.tidy end front bodies site back opened → Served end
+kept_over {P} seen k asked end front bodies site back (Ok ports) became =
+    ⊎_elim (λ (p : (end ≡ NoMemory) × Keeps k back front (starts site bodies)). ends_so end NoMemory p.0 tt)
+    (λ (p : (left : P) × (why : End) × ServesFile k asked.tidy front bodies site back why (seen ports) (seen left) × (end ≡ end_by why)).
+    ends_so end (end_by p.1.0) p.1.1.1 (served_by p.1.0)) became
+kept_over {P} seen k asked end front bodies site back (Err fault) became = ends_so end (Gate fault) became.0 tt
+
+module _ {D P S K : Type 0} (opens : List ℕ → Result P GateFault → Type 0) (seen : P → Option (List Seen)) (st : AStore S K) (k : ADisk K)
+    (life : List ℕ) (asked : Daemon) (path : List ℕ) (old new : D) (was now : S) (end : DaemonEnd) where
+  with_file : WithFile opens seen st k life asked path old new was now end → Served end
+  with_file of =
+      ⊎_elim (λ (p : IsRefused k asked.place life of.disk of.back end × (new ≡ old)). ends_so end (not_opened p.0.why) p.0.tells (refused_by p.0.why))
+      (λ (p : ServedFrom opens seen k asked end life of.disk of.back).
+      kept_over seen k asked end p.found.front p.bodies p.site of.back p.goes_on.0 p.goes_on.1.1) of.became
+
+  without_file : NoFile opens seen st k life asked path old new was now end → Served end
+  without_file of =
+      ⊎_elim (λ (p : (end ≡ File InUse) × (st.locked now ≡ true)). ends_so end (File InUse) p.0 tt)
+      (λ (p : (end ≡ File Refused) × (st.locked now ≡ false)). ends_so end (File Refused) p.0 tt) of.end_is
+
+  pub keeps_as : KeepsAs opens seen st k life asked path old new was now end → Served end
+  keeps_as keeps =
+      ⊎_elim (λ (nothing : NothingAsked opens seen st k life asked path old new was now end). ends_so end NoMemory nothing.end_is tt)
+      (λ (asks : NoFile opens seen st k life asked path old new was now end ⊎ WithFile opens seen st k life asked path old new was now end).
+      ⊎_elim (λ (fails : NoFile opens seen st k life asked path old new was now end). without_file fails)
+      (λ (of : WithFile opens seen st k life asked path old new was now end). with_file of) asks) keeps.became
+
+abbrev in_some : {A : Type 0} → A → Option A → A
+in_some other None = other
+in_some other (Some a) = a
+
+same_some : {A : Type 0} (a b : A) → Some a ≡ Some b → a ≡ b
+same_some a b e = ap (in_some a) e
+
+-- what is asked for is what the plan says
+pub keeps_file : {D P S K O : Type 0} (opens : List ℕ → Result P GateFault → Type 0) (seen : P → Option (List Seen)) (st : AStore S K) (k : ADisk K) (life : List ℕ)
+    (old new : D) (was now : S) (before after : O) (words : List (List ℕ)) (end : DaemonEnd) (plan : DaemonPlan)
+    → daemon (settings words) ≡ Some (daemon_of plan) → after ≡ before
+    → ((path : List ℕ) → (daemon_of plan).file ≡ Some path → KeepsAs opens seen st k life (daemon_of plan) path old new was now end)
+    → KeepsFile opens seen st k life old new was now before after words end
+keeps_file opens seen st k life old new was now before after words end plan says same keeps =
+    λ asked path is filed.
+    let asks = same_some (daemon_of plan) asked (sym says ∙ is) in
+    (subst (λ (a : Daemon). KeepsAs opens seen st k life a path old new was now end) asks
+    (keeps path (subst (λ (a : Daemon). a.file ≡ Some path) (sym asks) filed)), same)

@@ -1,0 +1,92 @@
+-- What is served from a site that is kept in a file.
+use Rattle.std.specs.Prelude.{◌≡◌, ℕ, Bool, List, map, Option}
+use Rattle.tardis_io.specs.Faults.{Rose}
+use Rattle.disk_store.specs.declared.disks.Disk.{Ghosts as ADisk}
+use Rattle.rest_machine.specs.declared.resting.Resting.{Ghosts as AResting}
+use Rattle.command_words.specs.declared.commands.Place.{Place}
+use Rattle.command_words.specs.Places.{program_limits}
+use Rattle.hub.specs.declared.ports.Seen.{Seen}
+use Rattle.hub.specs.declared.serves.End.{End}
+use Rattle.hub.specs.Settlings.{PlainSettling, settling}
+use Rattle.hub.specs.Runs.{IsRun}
+use Rattle.log_groups.specs.declared.fronts.LogFront.{LogFront}
+use Rattle.plain_site.specs.Site.{Site, opening}
+use Rattle.plain_site.specs.Step.{site_machine}
+use Rattle.plain_site.specs.Sound.{IsSound}
+use Rattle.session_core.specs.Core.{Core}
+use Rattle.session_core.specs.Machine.{SiteStands, opened_with}
+use Rattle.rest_site.specs.Bytes.{lasting_bytes, TakesBack}
+use Rattle.site_log.specs.declared.ends.OpenEnd.{OpenEnd}
+use Rattle.site_log.specs.declared.ends.OpenEnd.TheVariants.{Disk as DiskFailed, NotALog, OtherVersion, BadFront, OtherSite, OtherLimits, Damaged, Unfit, NoMemory}
+use Rattle.site_log.specs.declared.opens.FoundLog.{FoundLog}
+use Rattle.site_log.specs.Kept.{Kept, IsSettled, with_settle, starts, logged, TakesAll}
+use Rattle.site_log.specs.Images.{Mark, IsSafe}
+use Rattle.site_log.specs.Reads.{IsWanted}
+use Rattle.site_log.specs.Opens.{Finds, OpeningLeaves, IsRefused as IsLogRefused}
+use Rattle.tardisd_main.specs.declared.endings.FileFault.TheVariants.{Disk as DiskFails, NotALog as IsNoLog, OtherVersion as IsOtherVersion, BadFront as HasBadFront, OtherSite as IsOtherSite, OtherLimits as HasOtherLimits, Damaged as IsDamagedAt, Unfit as IsUnfitAt}
+use Rattle.tardisd_main.specs.declared.endings.DaemonEnd.{DaemonEnd}
+use Rattle.tardisd_main.specs.declared.endings.DaemonEnd.TheVariants.{NoMemory as WantedMemory, File}
+use Rattle.tardisd_main.specs.Sites.{upkeep_rule}
+
+-- the site that opens at a place
+abbrev pub opens_at : Place → Site
+opens_at place = opening (program_limits place.sites) place.site
+
+-- what the file of a site at a place says first, and, where it is new, of which life it is
+abbrev pub front_at : Place → List ℕ → LogFront
+front_at place life =
+    let limits = program_limits place.sites in
+    record { sites = limits.sites; own = place.site; max_kept = limits.max_kept; max_path = limits.max_path; max_sessions = limits.max_sessions; life = life }
+
+-- the site as a machine that starts again from what lasted
+abbrev pub resting : AResting Core
+resting = record { Plain = Site; plain = site_machine; stands = SiteStands; opening = opened_with; lasting = lasting_bytes; takes_back = TakesBack }
+
+-- the site with what lasted of its requests, which settles by putting that into its file
+abbrev pub kept_site : PlainSettling (Kept Site)
+kept_site = settling (logged resting) IsSettled with_settle
+
+-- how a server ends whose log isn't opened
+abbrev pub not_opened : OpenEnd → DaemonEnd
+not_opened NotALog = File IsNoLog
+not_opened (OtherVersion version) = File (IsOtherVersion version)
+not_opened BadFront = File HasBadFront
+not_opened (OtherSite front) = File (IsOtherSite (record { sites = front.sites; site = front.own }))
+not_opened (OtherLimits front) = File HasOtherLimits
+not_opened (Damaged place) = File (IsDamagedAt place)
+not_opened (Unfit place) = File (IsUnfitAt place)
+not_opened NoMemory = WantedMemory
+not_opened DiskFailed = File DiskFails
+
+module _ {K : Type 0} (k : ADisk K) where
+  -- The log on a disk wasn't opened. Unless a call of the disk failed, it was only read, and what it reads is why: it has no log that
+  -- leads on from the site of the place; or memory was wanting. Whatever failed, a crash left what was there.
+  pub record IsRefused (place : Place) (life : List ℕ) (disk back : K) (end : DaemonEnd) : Type 0 where
+    pub why : OpenEnd
+    pub tells : end ≡ not_opened why
+    pub bytes : (site : Core) × (SiteStands site (opens_at place) × IsLogRefused resting k site disk (front_at place life) why back)
+    pub cause : why ≡ DiskFailed → Rose (k.faults disk) (k.faults back)
+    pub safe : k.honest disk → OpeningLeaves k disk back (front_at place life)
+
+  -- A site was found on a disk: what its file was found to be, the bodies in it, and the site to which they lead from the one that
+  -- opens at the place.
+  pub record IsFound (place : Place) (life : List ℕ) (disk : K) (found : FoundLog) (bodies : List (List ℕ)) (site : Site) : Type 0 where
+    pub held : k.honest disk → Finds (k.reads disk) (front_at place life) found bodies
+    pub wanted : IsWanted found.front (front_at place life)
+    pub taken : TakesAll resting (opens_at place) bodies site
+    pub between : K
+    pub safe : k.honest disk → OpeningLeaves k disk between (front_at place life)
+
+  -- A disk keeps what lasted: there is a moment for each time that all was settled, and each image that a crash might have left from
+  -- then on holds at least what had lasted by then, in a log of this front, and nothing but what lasted, in order.
+  pub record Keeps (disk : K) (front : LogFront) (kept : Kept Site) : Type 0 where
+    pub sound : IsSound kept.state
+    pub marks : List Mark
+    pub counts : map (λ mark. mark.count) marks ≡ kept.settles
+    pub safe : k.honest disk → IsSafe k disk front kept.things marks
+
+  -- A site that was found on a disk was served: a run of a hub from there on, with this upkeep and what the edge saw, in which nothing
+  -- is told before the disk keeps it.
+  abbrev pub ServesFile : Bool → LogFront → List (List ℕ) → Site → K → End → (before after : Option (List Seen)) → Type 0
+  ServesFile tidy front bodies site back end before after =
+      IsRun kept_site (upkeep_rule tidy) (λ kept. Keeps back front kept) (starts site bodies) end before after

@@ -1,0 +1,201 @@
+//! One site that is kept in a file, over the connections of an edge.
+
+ghost use Rattle.std.specs.Prelude.{◌≡◌, ◌⊎◌, ◌<◌, ◌+◌, ◌≤◌, ℕ, List, true, false};
+ghost use Rattle.tardis_io.specs.Faults.{Rose};
+ghost use Rattle.command_words.specs.Daemons.{daemon_of};
+ghost use Rattle.command_words.specs.Places.{IsPlace};
+ghost use Rattle.log_groups.specs.Items.{IsFront};
+ghost use Rattle.log_groups.specs.declared.fronts.LogFront.{LogFront};
+ghost use Rattle.plain_site.specs.Site.{Site};
+ghost use Rattle.session_core.specs.Machine.{SiteStands};
+ghost use Rattle.site_log.specs.Kept.{starts};
+ghost use Rattle.site_log.specs.Images.{Mark};
+ghost use Rattle.site_log.specs.Stood.{Stands};
+ghost use Rattle.tardisd_main.specs.Files.{resting, front_at, opens_at, not_opened, IsRefused};
+ghost use Rattle.tardisd_main.specs.Stores.{KeepsAs, GoesOn, ServedFrom, ServedOver};
+
+use crate::doors::{Doors, FoundSite};
+use crate::endings::{DaemonEnd, FileFault, ending_of};
+use crate::sites::upkeep_of;
+use command_words::{DaemonPlan, Place};
+use disk_store::{BytewiseDisk, Store};
+use hub::{Ports, serve};
+use log_groups::LogFront;
+use rest_site::RestSite;
+use site_log::{FoundLog, Logged, NotOpened, OpenEnd, OpenedLog, open_log};
+use std::alloc::Global;
+use std::hash::RandomState;
+use tardis_base::NoMemory;
+use tardis_io::Failed;
+
+/// Serves the site at the plan's place, which is kept in the file at a path, over the connections at the plan's address. The file is
+/// opened first, and the site read from it; then the edge is opened. Nobody is told of what isn't in the file yet. Where the file is
+/// new it gets this life: 16 bytes that no other file of the site has. The cost of the start grows with the file.
+///
+/// The disk goes back to the store at the end, whatever this is.
+pub fn serve_file<D: Doors, K: BytewiseDisk, S: Store<Disk = K>>(
+    alloc: Global,
+    keys: RandomState,
+    life: [u8; 16],
+    plan: DaemonPlan<'_>,
+    path: &str,
+    doors: &mut D,
+    store: &mut S,
+) -> DaemonEnd
+    requires place { IsPlace plan.place }
+    ensures { KeepsAs D.opens D.Ports.seen S.Store K.Disk life (daemon_of plan.entry) path.now doors.old doors.new store.old store.new result }
+{
+    match RestSite::new(alloc, keys, plan.place.limits(), plan.place.site) {
+        Ok(site) => serve_stored(alloc, site, life, plan, path, doors, store),
+        Err(NoMemory) => DaemonEnd::NoMemory,
+    }
+}
+
+/// Opens the disk at a path, and serves the site from it.
+#[tactic(auto, using(crate::proofs::Stores::out_now))]
+fn serve_stored<D: Doors, K: BytewiseDisk, S: Store<Disk = K>>(
+    alloc: Global,
+    site: RestSite,
+    life: [u8; 16],
+    plan: DaemonPlan<'_>,
+    path: &str,
+    doors: &mut D,
+    store: &mut S,
+) -> DaemonEnd
+    requires place { IsPlace plan.place }
+    requires opens { SiteStands site (opens_at plan.place) }
+    ensures { KeepsAs D.opens D.Ports.seen S.Store K.Disk life (daemon_of plan.entry) path.now doors.old doors.new store.old store.new result }
+{
+    match store.open_file(path) {
+        Ok(disk) => {
+            let (end, disk) = serve_from(alloc, site, disk, life, plan, doors);
+            store.put_back(disk);
+            end
+        }
+        Err(Failed) => DaemonEnd::File(unopened(store)),
+    }
+}
+
+/// Why a store gave no disk.
+fn unopened<S: Store>(store: &S) -> FileFault
+    ensures { ((result ≡ FileFault.InUse) × (S.locked store.now ≡ true)) ⊎ ((result ≡ FileFault.Refused) × (S.locked store.now ≡ false)) }
+{
+    if store.is_locked() {
+        FileFault::InUse
+    } else {
+        FileFault::Refused
+    }
+}
+
+/// Reads the site from a disk, and serves it.
+fn serve_from<D: Doors, K: BytewiseDisk>(
+    alloc: Global,
+    site: RestSite,
+    disk: K,
+    life: [u8; 16],
+    plan: DaemonPlan<'_>,
+    doors: &mut D,
+) -> (DaemonEnd, K)
+    requires place { IsPlace plan.place }
+    requires opens { SiteStands site (opens_at plan.place) }
+    ensures { (IsRefused K.Disk plan.entry.place life disk result.1 result.0 × (doors.new ≡ doors.old))
+        ⊎ ServedFrom D.opens D.Ports.seen K.Disk (daemon_of plan.entry) result.0 life disk result.1 }
+{
+    match open_log(alloc, site, disk, &front_of(plan.place, life)) {
+        Ok(opened) => {
+            let OpenedLog { log, found } = opened;
+            let told = found_site(log.machine(), &found);
+            serve_log(alloc, log, told, plan, doors)
+        }
+        Err(refused) => {
+            let NotOpened { end, disk } = refused;
+            (end_of(end), disk)
+        }
+    }
+}
+
+/// Opens the edge, and serves the site with its log over the connections that come. The disk comes back with the end.
+fn serve_log<D: Doors, K: BytewiseDisk>(
+    alloc: Global,
+    log: Logged<RestSite, K>,
+    found: FoundSite,
+    plan: DaemonPlan<'_>,
+    doors: &mut D,
+) -> (DaemonEnd, K)
+    ensures { (bodies : List (List ℕ)) (site : Site) (marks : List Mark) → Stands resting K.Disk log (starts site bodies) marks
+        → GoesOn D.opens D.Ports.seen K.Disk (daemon_of plan.entry) result.0 log.file.front bodies site result.1 }
+{
+    match doors.open(plan.listen) {
+        Ok(ports) => {
+            doors.announce(plan.place, plan.listen, Some(found));
+            serve_ports(alloc, log, plan.tidy, ports)
+        }
+        Err(fault) => (DaemonEnd::Gate(fault), log.close()),
+    }
+}
+
+/// Serves the site with its log over the connections of an edge, which then end.
+fn serve_ports<P: Ports + Drop, K: BytewiseDisk>(
+    alloc: Global,
+    log: Logged<RestSite, K>,
+    tidy: bool,
+    ports: P,
+) -> (DaemonEnd, K)
+    ensures { (bodies : List (List ℕ)) (site : Site) (marks : List Mark) → Stands resting K.Disk log (starts site bodies) marks
+        → ServedOver P.seen K.Disk tidy result.0 log.file.front bodies site result.1 ports }
+{
+    let (mut log, mut ports) = (log, ports);
+    match serve(alloc, &mut log, &mut ports, upkeep_of(tidy)) {
+        Ok(end) => (ending_of(end), log.close()),
+        Err(NoMemory) => (DaemonEnd::NoMemory, log.close()),
+    }
+}
+
+/// What the file of the site at a place says first.
+fn front_of(place: Place, life: [u8; 16]) -> LogFront
+    ensures front { result ≡ front_at place life }
+    ensures fits { IsFront result }
+{
+    let limits = place.limits();
+    LogFront {
+        sites: limits.sites,
+        own: place.site,
+        max_kept: limits.max_kept,
+        max_path: limits.max_path,
+        max_sessions: limits.max_sessions,
+        life,
+    }
+}
+
+/// What is told of a site that was found in a file.
+fn found_site(site: &RestSite, found: &FoundLog) -> FoundSite {
+    FoundSite {
+        known: site.known(),
+        kept: site.kept(),
+        groups: found.groups,
+        bytes: found.bytes,
+        is_torn: found.is_torn,
+        is_new: found.is_new,
+    }
+}
+
+/// How a server ends whose log isn't opened.
+fn end_of(end: OpenEnd) -> DaemonEnd
+    ensures { result ≡ not_opened end }
+{
+    let fault = match end {
+        OpenEnd::NoMemory => return DaemonEnd::NoMemory,
+        OpenEnd::Disk => FileFault::Disk,
+        OpenEnd::NotALog => FileFault::NotALog,
+        OpenEnd::OtherVersion(version) => FileFault::OtherVersion(version),
+        OpenEnd::BadFront => FileFault::BadFront,
+        OpenEnd::OtherSite(front) => FileFault::OtherSite(Place {
+            sites: front.sites,
+            site: front.own,
+        }),
+        OpenEnd::OtherLimits(_) => FileFault::OtherLimits,
+        OpenEnd::Damaged(place) => FileFault::Damaged(place),
+        OpenEnd::Unfit(place) => FileFault::Unfit(place),
+    };
+    DaemonEnd::File(fault)
+}
