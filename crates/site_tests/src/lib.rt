@@ -13,6 +13,8 @@ mod disks;
 #[cfg(test)]
 mod exchange_rows;
 #[cfg(test)]
+mod file_rows;
+#[cfg(test)]
 mod floor_rows;
 #[cfg(test)]
 mod journal_rows;
@@ -32,6 +34,8 @@ mod of_durable_run;
 mod of_exchange;
 #[cfg(test)]
 mod of_export_run;
+#[cfg(test)]
+mod of_files;
 #[cfg(test)]
 mod of_floors;
 #[cfg(test)]

@@ -1,11 +1,10 @@
+use crate::disks::store_of;
 use crate::sites::keys;
-use crate::talks::{bytes_of, copied};
+use crate::talks::bytes_of;
 use command_words::Place;
-use disk_forms::{MemoryDisk, MemoryStore};
 use hub::{End, MemoryPorts, Move, Seen};
 use std::alloc::Global;
 use std::hash::RandomState;
-use std::mem;
 use std::process::Abort;
 use std::random::RandomSource;
 use tardis_base::ByteList;
@@ -16,7 +15,7 @@ use tardisd_main::{DaemonEnd, Doors, FileFault, FoundSite, GateFault, plan_of, s
 const PLACE: Place = Place { sites: 3, site: 2 };
 
 /// The words of a line.
-fn words_of(rt: &impl Abort, alloc: Global, line: &str) -> Vec<String> {
+pub(crate) fn words_of(rt: &impl Abort, alloc: Global, line: &str) -> Vec<String> {
     let mut words = Vec::new(alloc);
     for word in line.split_whitespace() {
         let word = String::from_str(alloc, word).expect(rt, "room");
@@ -49,27 +48,12 @@ fn words_are_a_plan_or_refused(rt: HostRuntime) {
     assert!(rt; are_refused(words.as_slice()));
 }
 
-/// Doors behind which these moves are made, which know whether they were opened at `unix:s` for the place, and what was found in
-/// its file.
+/// Doors behind which nobody is, which know whether they were opened at `unix:s` for the place.
 #[derive(Drop)]
 struct NotingDoors {
     alloc: Global,
-    moves: Vec<Move>,
     is_opened: bool,
     is_announced: bool,
-    found: Option<FoundSite>,
-}
-
-impl NotingDoors {
-    fn new(alloc: Global, moves: Vec<Move>) -> NotingDoors {
-        NotingDoors {
-            alloc,
-            moves,
-            is_opened: false,
-            is_announced: false,
-            found: None,
-        }
-    }
 }
 
 impl Doors for NotingDoors {
@@ -79,24 +63,13 @@ impl Doors for NotingDoors {
 
     fn open(&mut self, address: &str) -> Result<MemoryPorts, GateFault> {
         self.is_opened = address == "unix:s";
-        let moves = mem::replace(&mut self.moves, Vec::new(self.alloc));
-        Ok(MemoryPorts::new(self.alloc, moves))
+        Ok(MemoryPorts::new(self.alloc, Vec::new(self.alloc)))
     }
 
     fn announce(&mut self, place: Place, address: &str, found: Option<FoundSite>) {
-        self.is_announced = self.is_opened && place == PLACE && address == "unix:s";
-        self.found = found;
+        let is_here = place == PLACE && address == "unix:s";
+        self.is_announced = self.is_opened && is_here && found.is_none();
     }
-}
-
-/// The life of a new file.
-const LIFE: [u8; 16] = [7; 16];
-
-/// A store that has a disk with these bytes at `f`.
-fn a_store(rt: &impl Abort, alloc: Global, bytes: &[u8]) -> MemoryStore {
-    let disk = MemoryDisk::new(alloc, bytes, 10_000, &[]).expect(rt, "room");
-    let path = String::from_str(alloc, "f").expect(rt, "room");
-    MemoryStore::new(path, disk)
 }
 
 /// Whether these words end so, and write this.
@@ -109,12 +82,12 @@ fn end_as(
     written: &[u8],
 ) -> bool {
     let words = words_of(rt, alloc, line);
-    let mut store = a_store(rt, alloc, &[]);
+    let mut store = store_of(rt, alloc, b"", &[]);
     let mut output = MemorySink::new(alloc, 100, 100, &[]).expect(rt, "room");
     let ended = tardisd(
         alloc,
         keys(rt),
-        LIFE,
+        [7; 16],
         words.as_slice(),
         doors,
         &mut store,
@@ -128,7 +101,11 @@ fn end_as(
 
 #[test]
 fn words_are_carried_out(rt: HostRuntime) {
-    let mut doors = NotingDoors::new(rt.alloc(), Vec::new(rt.alloc()));
+    let mut doors = NotingDoors {
+        alloc: rt.alloc(),
+        is_opened: false,
+        is_announced: false,
+    };
     let told = b"tardisd 0.1.0\n";
     assert!(rt;
         end_as(
@@ -200,46 +177,6 @@ fn moves(rt: &impl Abort, alloc: Global) -> Vec<Move> {
         Move::Write { slot: 0, most: 100 },
     ];
     Vec::from_array(alloc, moves).expect(rt, "room")
-}
-
-/// What a site of this disk came to, whose edge makes these moves and then stops: what was found of it, and its disk.
-fn a_life(
-    rt: &(impl Abort + RandomSource),
-    alloc: Global,
-    bytes: &[u8],
-    moves: Vec<Move>,
-) -> (Option<FoundSite>, Vec<u8>) {
-    let mut doors = NotingDoors::new(alloc, moves);
-    let mut store = a_store(rt, alloc, bytes);
-    let mut output = MemorySink::new(alloc, 100, 100, &[]).expect(rt, "room");
-    let line = "--sites 3 --site 2 --listen unix:s --file f";
-    let words = words_of(rt, alloc, line);
-    let ended = tardisd(
-        alloc,
-        keys(rt),
-        LIFE,
-        words.as_slice(),
-        &mut doors,
-        &mut store,
-        &mut output,
-    );
-    drop(output);
-    assert!(rt; ended == DaemonEnd::Gate(GateFault::Lost));
-    let found = doors.found;
-    drop(doors);
-    let disk = store.disk().expect(rt, "a disk");
-    let held = copied(rt, alloc, disk.bytes());
-    drop(disk);
-    (found, held)
-}
-
-#[test]
-fn a_site_goes_on_from_its_file(rt: HostRuntime) {
-    let (found, bytes) = a_life(&rt, rt.alloc(), &[], moves(&rt, rt.alloc()));
-    assert!(rt; matches!(found, Some(FoundSite { known: 1, is_new: true, .. })));
-    let none = Vec::new(rt.alloc());
-    let (found, _) = a_life(&rt, rt.alloc(), bytes.as_slice(), none);
-    assert!(rt; matches!(found, Some(FoundSite { known: 2, kept: 2, groups: 1, is_new: false, .. })));
 }
 
 /// Whether a site at the place serves this edge until it says stop.

@@ -103,6 +103,17 @@ impl Talk {
         self.rows.as_slice()
     }
 
+    /// The frames of the requests, as the connection of one actor has them.
+    pub fn frames(&self, rt: &impl Abort) -> Vec<Vec<u8>> {
+        let mut frames = Vec::new(self.alloc);
+        for row in self.rows.as_slice() {
+            let mut frame = Vec::new(self.alloc);
+            put_frame(rt, &mut frame, &[], row.asked.as_slice());
+            frames.push(frame).expect(rt, "room");
+        }
+        frames
+    }
+
     /// The frames of the requests.
     pub fn input(&self, rt: &impl Abort) -> Vec<u8> {
         let mut frames = Vec::new(self.alloc);

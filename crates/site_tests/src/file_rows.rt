@@ -1,0 +1,66 @@
+//! Worked rows of sites that start again from their files, each as one connection asks them: an actor, the bytes of its request,
+//! those of the reply, and both in words. A server reads no actor from a connection, so that column says nothing here.
+
+/// A commit, and a transaction that is open at the end.
+pub const COMMITTED: &str = "\
+1 0100         01000000000000               open => opened 0.0
+1 0200         02000000000000               begin any => begun 0.0
+1 040178000131 07                           put x 1 => done
+1 06010000     0800010000000101000000000000 commit ser => committed 1.1 from 0.0
+1 0200         02000100000001               begin any => begun 1.1
+1 040178000132 07                           put x 2 => done";
+
+/// The commit is there. The session and its transaction are gone, and their number serves anew.
+pub const COMMITTED_AGAIN: &str = "\
+1 030178       1502                         get x => refused notopen
+1 0100         01000000000000               open => opened 0.0
+1 06010000     1506                         commit ser => refused notxn
+1 0200         02000100000001               begin any => begun 1.1
+1 030178       04000100000001000131         get x => value 1.1 1
+1 040178000133 07                           put x 3 => done
+1 06010000     0800010000000201000100000001 commit ser => committed 1.2 from 1.1";
+
+/// Behind two records: a third, a consent, and the own promise.
+pub const PROMISED: &str = "\
+1 14010002000000030100020000000201016101000133 11                     deliver 2.3 => applied
+1 140200020000000100020000000300000003         11                     deliver consent 1 of 2 => applied
+1 0d000200000003                               0c00020000000300000001 raise 2.3 => raised 2.3 1";
+
+/// All of it is there, and is given to whoever pulls. The next promise has the next number.
+pub const PROMISED_AGAIN: &str = "\
+1 14010002000000030100020000000201016101000133 12                     deliver 2.3 => known
+1 140200020000000100020000000300000003         12                     deliver consent 1 of 2 => known
+1 14010002000000040100020000000101016201000139 1518000200000001       deliver 2.4 below 2.1 => refused closedparent 2.1
+1 13020000000000000000 100000020001000000010002000000030000000000020000000100020000000300000003 pull 0 0 => batch
+1 0d000200000003                               0c00020000000300000002 raise 2.3 => raised 2.3 2";
+
+/// Two commits, of which the second stays.
+pub const COLLECTED: &str = "\
+1 0101         01000000000000               open follow => opened 0.0
+1 0200         02000000000000               begin any => begun 0.0
+1 040178000131 07                           put x 1 => done
+1 06010000     0800010000000101000000000000 commit ser => committed 1.1 from 0.0
+1 0200         02000100000001               begin any => begun 1.1
+1 040178000132 07                           put x 2 => done
+1 06010000     0800010000000201000100000001 commit ser => committed 1.2 from 1.1
+1 0200         02000100000002               begin any => begun 1.2
+1 0e           0c00010000000200000001       raise auto => raised 1.2 1
+1 0f00ff       0d00000002                   tidy 255 => tidied 2";
+
+/// The others stay collected.
+pub const COLLECTED_AGAIN: &str = "\
+1 10             0e000000000000000300000001000000010000010000000200010000000200000001 stat => stat known 3 kept 1 leaves 1 sessions 0 sites 1 2:1.2:1
+1 11000100000001 1513000100000001               show 1.1 => refused collected 1.1
+1 0100           01000100000002                 open => opened 1.2
+1 0200           02000100000002                 begin any => begun 1.2
+1 030178         04000100000002000132           get x => value 1.2 2";
+
+/// Two commits, one after another.
+pub const TWO_COMMITS: &str = "\
+1 0100         01000000000000               open => opened 0.0
+1 0200         02000000000000               begin any => begun 0.0
+1 040178000131 07                           put x 1 => done
+1 06010000     0800010000000101000000000000 commit ser => committed 1.1 from 0.0
+1 0200         02000100000001               begin any => begun 1.1
+1 040178000132 07                           put x 2 => done
+1 06010000     0800010000000201000100000001 commit ser => committed 1.2 from 1.1";

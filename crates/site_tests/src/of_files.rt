@@ -1,0 +1,301 @@
+//! A site that is kept in a file, whose server ends and starts again.
+
+ghost use Rattle.std.specs.Prelude.{◌≡◌, ◌≤◌, None, length};
+
+use crate::disks::crashed;
+use crate::exchange_rows::TWO_RECORDS;
+use crate::file_rows::{
+    COLLECTED, COLLECTED_AGAIN, COMMITTED, COMMITTED_AGAIN, PROMISED, PROMISED_AGAIN, TWO_COMMITS,
+};
+use crate::of_site_journal::CRASHES;
+use crate::of_tardisd_main::words_of;
+use crate::sites::keys;
+use crate::talks::{Talk, copied};
+use command_words::Place;
+use disk_forms::{MemoryDisk, MemoryStore};
+use hub::{Connection, Ports, Ready};
+use std::alloc::Global;
+use std::process::Abort;
+use std::random::RandomSource;
+use tardis_io::MemorySink;
+use tardisd_main::{DaemonEnd, Doors, FileFault, FoundSite, GateFault, tardisd};
+
+/// An edge of one connection. Its requests come one at a time, each once the reply to the one before it was taken.
+#[derive(Drop)]
+struct OneByOne<'a> {
+    asked: Vec<Vec<u8>>,
+    turns: usize,
+    told: &'a mut Vec<u8>,
+}
+
+impl Ports for OneByOne<'_> {
+    ghost seen = { λ p. None };
+
+    fn ready(&mut self, connections: &[Option<Connection>]) -> Ready {
+        let _ = connections;
+        let turn = self.turns;
+        self.turns = turn.saturating_add(1);
+        if turn == 0 {
+            return Ready::Accept;
+        }
+        if (turn - 1) / 2 >= self.asked.len() {
+            return Ready::Stop;
+        }
+        if turn % 2 == 1 {
+            Ready::Read(0)
+        } else {
+            Ready::Write(0)
+        }
+    }
+
+    fn accept(&mut self, slot: usize) -> Option<u8> {
+        let _ = slot;
+        Some(0)
+    }
+
+    fn decline(&mut self) {}
+
+    fn read(&mut self, slot: usize, buf: &mut [u8]) -> usize {
+        let _ = slot;
+        match self.asked.get(self.turns.saturating_sub(2) / 2) {
+            Some(frame) => copy_front(frame.as_slice(), buf),
+            None => 0,
+        }
+    }
+
+    fn write(&mut self, slot: usize, bytes: &[u8]) -> usize {
+        let _ = slot;
+        match self.told.extend_from_slice(bytes) {
+            Ok(()) => bytes.len(),
+            Err(_) => 0,
+        }
+    }
+
+    fn close(&mut self, slot: usize) {
+        let _ = slot;
+    }
+}
+
+/// Copies a front of the bytes, as long as there is room.
+fn copy_front(bytes: &[u8], buf: &mut [u8]) -> usize
+    ensures bound { result ≤ length buf.new }
+    ensures room { length buf.new ≡ length buf.old }
+{
+    let count = bytes.len().min(buf.len());
+    buf[..count].copy_from_slice(&bytes[..count]);
+    count
+}
+
+/// Doors at which this edge is, once, and which know what was found in the file.
+#[derive(Drop)]
+struct OneDoor<'a> {
+    edge: Option<OneByOne<'a>>,
+    found: Option<FoundSite>,
+}
+
+impl<'a> Doors for OneDoor<'a> {
+    type Ports = OneByOne<'a>;
+
+    ghost opens = { λ address opened. Unit {0} };
+
+    fn open(&mut self, address: &str) -> Result<OneByOne<'a>, GateFault> {
+        let _ = address;
+        match self.edge.take() {
+            Some(edge) => Ok(edge),
+            None => Err(GateFault::Refused),
+        }
+    }
+
+    fn announce(&mut self, place: Place, address: &str, found: Option<FoundSite>) {
+        let _ = place;
+        let _ = address;
+        self.found = found;
+    }
+}
+
+/// How a server of a site in a file ended, what it told, what it had found there, and the disk.
+#[derive(Drop)]
+struct Life {
+    end: DaemonEnd,
+    told: Vec<u8>,
+    found: Option<FoundSite>,
+    disk: MemoryDisk,
+}
+
+/// A store that has a disk with these bytes at `f`, of which the listed calls fail.
+fn file_of(rt: &impl Abort, alloc: Global, bytes: &[u8], failing: &[u64]) -> MemoryStore {
+    let path = String::from_str(alloc, "f").expect(rt, "room");
+    MemoryStore::new(
+        path,
+        MemoryDisk::new(alloc, bytes, 20_000, failing).expect(rt, "room"),
+    )
+}
+
+/// How a server with these words ends.
+fn ended<D: Doors>(
+    rt: &(impl Abort + RandomSource),
+    alloc: Global,
+    line: &str,
+    doors: &mut D,
+    store: &mut MemoryStore,
+) -> DaemonEnd {
+    let words = words_of(rt, alloc, line);
+    let mut output = MemorySink::new(alloc, 0, 1, &[]).expect(rt, "room");
+    let words = words.as_slice();
+    tardisd(
+        alloc,
+        keys(rt),
+        [7; 16],
+        words,
+        doors,
+        store,
+        &mut output,
+    )
+}
+
+/// The server with these words over a disk of these bytes, of which the listed calls fail, which is asked this.
+fn live(
+    rt: &(impl Abort + RandomSource),
+    alloc: Global,
+    line: &str,
+    talk: &Talk,
+    bytes: &[u8],
+    failing: &[u64],
+) -> Life {
+    let mut told = Vec::new(alloc);
+    let edge = OneByOne {
+        asked: talk.frames(rt),
+        turns: 0,
+        told: &mut told,
+    };
+    let mut doors = OneDoor {
+        edge: Some(edge),
+        found: None,
+    };
+    let mut store = file_of(rt, alloc, bytes, failing);
+    let end = ended(rt, alloc, line, &mut doors, &mut store);
+    let found = doors.found;
+    drop(doors);
+    let disk = store.disk().expect(rt, "a disk");
+    Life {
+        end,
+        told,
+        found,
+        disk,
+    }
+}
+
+/// What is left of a disk of these bytes, once a server with these words answered the rows of these tables.
+fn after(
+    rt: &(impl Abort + RandomSource),
+    alloc: Global,
+    line: &str,
+    tables: &[&str],
+    bytes: &[u8],
+) -> Vec<u8> {
+    let talk = Talk::of(rt, alloc, tables);
+    let life = live(rt, alloc, line, &talk, bytes, &[]);
+    assert!(rt; life.end == DaemonEnd::Gate(GateFault::Lost));
+    assert!(rt; life.told == talk.output(rt));
+    copied(rt, alloc, life.disk.bytes())
+}
+
+/// The words of a site alone, and of the first of two.
+const ALONE: &str = "--listen unix:s --file f";
+const OF_TWO: &str = "--sites 2 --listen unix:s --file f";
+
+/// Lives of servers: their words, the tables that the first one answers, and the one that the next one does.
+const LIVES: [(&str, &[&str], &str); 3] = [
+    (OF_TWO, &[COMMITTED], COMMITTED_AGAIN),
+    (OF_TWO, &[TWO_RECORDS, PROMISED], PROMISED_AGAIN),
+    (ALONE, &[COLLECTED], COLLECTED_AGAIN),
+];
+
+#[test]
+fn a_site_goes_on_from_its_file(rt: HostRuntime) {
+    for (line, first, next) in LIVES {
+        let bytes = after(&rt, rt.alloc(), line, first, b"");
+        let _ = after(&rt, rt.alloc(), line, &[next], bytes.as_slice());
+    }
+}
+
+/// What a server finds in a file of these bytes, and how it ends.
+fn found_in(
+    rt: &(impl Abort + RandomSource),
+    alloc: Global,
+    bytes: &[u8],
+) -> (Option<FoundSite>, DaemonEnd) {
+    let life = live(rt, alloc, ALONE, &Talk::new(alloc), bytes, &[]);
+    (life.found, life.end)
+}
+
+/// Two groups in a file: as they are, without the last byte of the second, and with another first byte.
+#[test]
+fn a_torn_group_is_left_out_and_a_damaged_file_is_told(rt: HostRuntime) {
+    let mut bytes = after(&rt, rt.alloc(), ALONE, &[TWO_COMMITS], b"");
+    let (found, _) = found_in(&rt, rt.alloc(), bytes.as_slice());
+    let whole = found.expect(&rt, "a site");
+    assert!(rt; whole.known == 3 && whole.groups == 2 && !whole.is_torn && !whole.is_new);
+    let last = (whole.bytes as usize).saturating_sub(1);
+    *bytes.get_mut(last).expect(&rt, "a byte") = 0;
+    let (found, _) = found_in(&rt, rt.alloc(), bytes.as_slice());
+    let torn = found.expect(&rt, "a site");
+    assert!(rt; torn.known == 2 && torn.groups == 1 && torn.is_torn && !torn.is_new);
+    *bytes.get_mut(0).expect(&rt, "a byte") = b'x';
+    let (found, end) = found_in(&rt, rt.alloc(), bytes.as_slice());
+    assert!(rt; found.is_none() && end == DaemonEnd::File(FileFault::NotALog));
+}
+
+/// How many commits were told: in these replies only the one to a commit has a byte 8.
+fn count_of_commits(told: &[u8]) -> u64 {
+    told.iter().filter(|byte| **byte == 8).count() as u64
+}
+
+/// Whether a crash by this choice, once a server ended whose listed call of the disk failed, leaves the commits that were told, or
+/// the next one too, and the next server goes on from them.
+fn crash_leaves_what_was_told(
+    rt: &(impl Abort + RandomSource),
+    alloc: Global,
+    failing: u64,
+    choice: u64,
+) -> bool {
+    let talk = Talk::of(rt, alloc, &[TWO_COMMITS]);
+    let Life { told, disk, .. } = live(rt, alloc, ALONE, &talk, b"", &[failing]);
+    let disk = crashed(rt, disk, choice);
+    let next = live(rt, alloc, ALONE, &talk, disk.bytes(), &[]);
+    let states = count_of_commits(told.as_slice()).saturating_add(1);
+    let goes_on = count_of_commits(next.told.as_slice()) == 2;
+    match next.found {
+        Some(found) => goes_on && (found.known == states || found.known == states.saturating_add(1)),
+        None => false,
+    }
+}
+
+/// Whether it ends as its edge does. Else it ends since the disk failed.
+fn ends_well(rt: &(impl Abort + RandomSource), alloc: Global, failing: u64) -> bool {
+    let talk = Talk::of(rt, alloc, &[TWO_COMMITS]);
+    let life = live(rt, alloc, ALONE, &talk, b"", &[failing]);
+    let is_well = life.end == DaemonEnd::Gate(GateFault::Lost);
+    assert!(rt; is_well || life.end == DaemonEnd::File(FileFault::Disk));
+    is_well
+}
+
+/// Has each call of the disk fail in turn, until none fails, and answers how many calls there are.
+fn count_of_calls(rt: &(impl Abort + RandomSource), alloc: Global) -> u64 {
+    for before in 0..100u64 {
+        for choice in CRASHES {
+            assert!(rt; crash_leaves_what_was_told(rt, alloc, before + 1, choice));
+        }
+        if ends_well(rt, alloc, before + 1) {
+            return before;
+        }
+    }
+    panic!(rt; "a call fails each time")
+}
+
+/// A new file is synced, measured and read, filled and synced, named and synced: 7 calls. Each of the two groups is written and
+/// synced.
+#[test]
+fn what_was_told_is_there_whichever_call_failed(rt: HostRuntime) {
+    assert_eq!(rt; count_of_calls(&rt, rt.alloc()), 11);
+}
