@@ -12,7 +12,7 @@ use Rattle.session_core.specs.Core.{Core}
 use Rattle.session_core.specs.Machine.{opened_with}
 use Rattle.site_log.specs.declared.logged.Logged.{Logged}
 use Rattle.site_log.specs.Kept.{Kept, starts, opens_with}
-use Rattle.site_log.specs.Images.{Mark, IsSafe}
+use Rattle.site_log.specs.Images.{Mark}
 use Rattle.site_log.specs.Stood.{Stands}
 use Rattle.tardisd_main.specs.Sites.{upkeep_rule}
 use Rattle.tardisd_main.specs.Files.{resting, kept_site, Keeps, ServesFile}

@@ -55,21 +55,21 @@ over_edge : {P : Type 0} (seen : P → Option (List Seen)) (opened : Result P Ga
 over_edge {P} seen (Ok ports) asked end became =
     ⊎_elim (λ (is : end ≡ NoMemory). ends_so end NoMemory is tt)
     (λ (p : (left : P) × (why : End) × ServesPlace asked.place asked.tidy why (seen ports) (seen left) × (why ≡ Unsettled → ⊥) × (end ≡ end_by why)).
-    ends_so end (end_by p.1.0) p.1.1.1.1 (served_by p.1.0)) became
+    ends_so end (end_by p.1) p.4 (served_by p.1)) became
 over_edge {P} seen (Err fault) asked end is = ends_so end (Gate fault) is tt
 
 pub serves_as : {D P : Type 0} (opens : List ℕ → Result P GateFault → Type 0) (seen : P → Option (List Seen)) (old new : D) (asked : Daemon) (end : DaemonEnd)
     → ServesAs opens seen old new asked end → Served end
 serves_as {D} {P} opens seen old new asked end served =
     ⊎_elim (λ (p : (end ≡ NoMemory) × (new ≡ old)). ends_so end NoMemory p.0 tt)
-    (λ (p : (opened : Result P GateFault) × opens asked.listen opened × EndsAs seen opened asked end). over_edge seen p.0 asked end p.1.1) served
+    (λ (p : (opened : Result P GateFault) × opens asked.listen opened × EndsAs seen opened asked end). over_edge seen p.0 asked end p.2) served
 
 kept_over : {P K : Type 0} (seen : P → Option (List Seen)) (k : ADisk K) (asked : Daemon) (end : DaemonEnd) (front : LogFront) (bodies : List (List ℕ)) (site : Site)
     (back : K) (opened : Result P GateFault) → EndsKept seen k asked.tidy end front bodies site back opened → Served end
 kept_over {P} seen k asked end front bodies site back (Ok ports) became =
     ⊎_elim (λ (p : (end ≡ NoMemory) × Keeps k back front (starts site bodies)). ends_so end NoMemory p.0 tt)
     (λ (p : (left : P) × (why : End) × ServesFile k asked.tidy front bodies site back why (seen ports) (seen left) × (end ≡ end_by why)).
-    ends_so end (end_by p.1.0) p.1.1.1 (served_by p.1.0)) became
+    ends_so end (end_by p.1) p.3 (served_by p.1)) became
 kept_over {P} seen k asked end front bodies site back (Err fault) became = ends_so end (Gate fault) became.0 tt
 
 module _ {D P S K : Type 0} (opens : List ℕ → Result P GateFault → Type 0) (seen : P → Option (List Seen)) (st : AStore S K) (k : ADisk K)

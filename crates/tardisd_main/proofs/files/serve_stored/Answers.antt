@@ -1,4 +1,3 @@
-use Rattle.std.proofs.Common.{refl}
 use Rattle.command_words.specs.Daemons.{daemon_of}
 use Rattle.tardisd_main.proofs.Stores.{no_file, with_file}
 use Rattle.tardisd_main.proofs.files.serve_stored.Goals as goal

@@ -1,4 +1,4 @@
-use Rattle.std.proofs.Common.{List, map, refl}
+use Rattle.std.proofs.Common.{map, refl}
 use Rattle.std.specs.String.{string_bytes}
 use Rattle.tardisd_main.proofs.Words.{keeps_file}
 use Rattle.tardisd_main.proofs.programs.tardisd.Goals as goal
