@@ -1,6 +1,6 @@
 /* Asks a server the same thing again and again, and tells how fast it was answered. `serve.py` and `durable.py` build and use it.
 
-   usage: client [-c CONNECTIONS] [-t THREADS] [-n COUNT] [-s PID] SERVER WHAT HOW ADDRESS
+   usage: client [-c CONNECTIONS] [-t THREADS] [-n COUNT] [-s PID] [-f] SERVER WHAT HOW ADDRESS
 
    SERVER   tardis (frames of docs/FORMATS.md, as tardisd reads them) or redis (RESP)
    WHAT     transactions: begin, get, put, commit; or WATCH, GET, MULTI, SET, EXEC
@@ -10,6 +10,8 @@
             pipelined: one connection sends all as fast as they are taken
    ADDRESS  unix:PATH, HOST:PORT, or pipes:FROM:TO with the numbers of two open files: replies come from the first, and
             requests go to the second, in frames that name actor 1
+
+   With -f a session of a site follows its commits, so that a site which collects may pass over what was read before.
 
    Each connection has a key of its own, which has a value of 32 bytes before the clock starts. CONNECTIONS (1 where nothing is
    said) are divided among so many THREADS (1), and ask together for COUNT (1,000). Each byte of each reply is compared with what
@@ -66,7 +68,7 @@ struct worker {
 };
 
 static struct {
-    bool is_redis, is_reads, is_together, is_pipelined, names_actor;
+    bool is_redis, is_reads, is_together, is_pipelined, names_actor, follows;
     const char *address;
     size_t connections, threads, count;
     pid_t server;
@@ -134,7 +136,7 @@ static void want_frame(struct script *script, size_t length, unsigned char code)
 static const char value[] = "vvvvvvvvvvvvvvvvvvvvvvvvvvvvvvvv";
 
 static void tardis_open(struct script *script) {
-    ask_frame(script, "\1\0", 2, 0);
+    ask_frame(script, told.follows ? "\1\1" : "\1\0", 2, 0);
     want_frame(script, 7, 1);
     want_id(script);
     end_step(script);
@@ -585,17 +587,18 @@ static size_t choice(const char *text, const char *const *among) {
 
 static void read_words(int count, char **words) {
     int option;
-    while ((option = getopt(count, words, "c:t:n:s:")) != -1) {
+    while ((option = getopt(count, words, "c:t:n:s:f")) != -1) {
         switch (option) {
         case 'c': told.connections = number(optarg, 1, 100000); break;
         case 't': told.threads = number(optarg, 1, 64); break;
         case 'n': told.count = number(optarg, 1, 100000000); break;
+        case 'f': told.follows = true; break;
         case 's': told.server = (pid_t)number(optarg, 1, INT32_MAX); break;
         default: exit(1);
         }
     }
     if (count - optind != 4) {
-        stop("usage: client [-c CONNECTIONS] [-t THREADS] [-n COUNT] [-s PID] tardis|redis transactions|reads turns|together|pipelined ADDRESS");
+        stop("usage: client [-c CONNECTIONS] [-t THREADS] [-n COUNT] [-s PID] [-f] tardis|redis transactions|reads turns|together|pipelined ADDRESS");
     }
     told.is_redis = choice(words[optind], (const char *const[]){"tardis", "redis", NULL}) == 1;
     told.is_reads = choice(words[optind + 1], (const char *const[]){"transactions", "reads", NULL}) == 1;

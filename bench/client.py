@@ -1,4 +1,4 @@
-"""Builds and calls `client.c`, which asks a server and tells how fast it was answered, for `serve.py` and `durable.py`."""
+"""Builds and calls `client.c`, which asks a server and tells how fast it was answered, for `serve.py`, `durable.py` and `start.py`."""
 
 import os
 import shlex

@@ -32,8 +32,8 @@ SHAPES = [(how, many, what) for how, many in (("pipelined", 1), ("turns", 1), ("
 Server = collections.namedtuple("Server", "name speaks most words")
 
 
-def of_tardisd(program):
-    return Server("tardisd", "tardis", 256, lambda folder, many: [program, "--listen", "unix:" + address(folder)])
+def of_tardisd(program, *options):
+    return Server("tardisd", "tardis", 256, lambda folder, many: [program, "--listen", "unix:" + address(folder), *options])
 
 
 def of_serve(program):

@@ -17,8 +17,9 @@ def first_line(process):
         ready, _, _ = select.select([process.stderr], [], [], max(0, end - time.monotonic()))
         more = os.read(process.stderr.fileno(), 1000) if ready else b""
         if not more:
+            status = process.poll()
             stop(process)
-            raise AssertionError("the server didn't listen: %r" % line)
+            raise AssertionError("the server didn't listen (%s): %r" % ("no line in time" if status is None else "it ended with %d" % status, line))
         line += more
     return line.decode()
 
