@@ -7,3 +7,4 @@ pub mod Own
 pub mod Paging
 pub mod Paged
 pub mod Based
+pub mod Lines

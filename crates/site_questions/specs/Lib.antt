@@ -3,3 +3,4 @@ pub mod Kept
 pub mod Own
 pub mod Listed
 pub mod Room
+pub mod Txns

@@ -3,6 +3,7 @@
 //! What is told is stated in `docs/MODEL.md`, and by `plain_questions` as definitions.
 #![tactic(auto)]
 
+mod answers;
 mod bases;
 mod denials;
 mod found;
@@ -10,8 +11,7 @@ mod listing;
 mod pages;
 mod reads;
 mod records;
+mod sessions;
+mod sites;
 
-pub use bases::tell_base;
-pub use pages::{tell_entries, tell_keys};
-pub use reads::tell_read;
-pub use records::tell_record;
+pub use answers::answer;
