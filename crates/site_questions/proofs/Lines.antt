@@ -8,7 +8,6 @@ use Rattle.tardis_base.specs.declared.records.Limits.{Limits}
 use Rattle.tardis_base.specs.Ids.{same_id}
 use Rattle.plain_dag.specs.Entries.{entry_of}
 use Rattle.plain_dag.specs.Collection.{kept_states}
-use Rattle.plain_dag.specs.Floors.{Session}
 use Rattle.ceiling_book.specs.declared.parts.OpenSession.{OpenSession}
 use Rattle.ceiling_book.specs.Book.{session_of}
 use Rattle.merge_txn.specs.declared.Txn.{Txn as Kept}

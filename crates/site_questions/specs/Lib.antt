@@ -4,3 +4,4 @@ pub mod Own
 pub mod Listed
 pub mod Room
 pub mod Txns
+pub mod Sure

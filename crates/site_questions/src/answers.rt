@@ -1,9 +1,10 @@
 //! What each question is answered.
 
-ghost use Rattle.std.specs.Prelude.{◌≡◌, IfOk};
+ghost use Rattle.std.specs.Prelude.{◌≡◌, IsTrue, IsOk, IfOk};
 ghost use Rattle.plain_site.specs.Site.{Site};
 ghost use Rattle.session_core.specs.Machine.{SiteStands};
 ghost use Rattle.plain_questions.specs.Answer.{answer};
+ghost use Rattle.site_questions.specs.Sure.{is_sure_question};
 
 use crate::bases::tell_base;
 use crate::pages::{tell_entries, tell_keys};
@@ -22,9 +23,10 @@ use tardis_base::NoMemory;
 /// state and with the keys that it holds, for each with a read. That of Base is that of `fork_points`, and of a read at each
 /// fork point. That of Sessions grows with the number of open sessions, beside the search for the floor, which costs what
 /// `CeilingBook::raise_auto` says. That of Keys and Scan grows with the number of all keys of the store, since these stand in
-/// no order, for each that is asked for with a read, and with n log n for the n that are found.
+/// no order, for each that is asked for with a read, and with n log n for the n that are found. Site takes no memory.
 pub fn answer(alloc: Global, site: &SiteCore, question: &Question) -> Result<Answered, NoMemory>
-    ensures { (plain : Site) → SiteStands site.now plain → IfOk result (λ told. told ≡ answer plain question.now) }
+    ensures told { (plain : Site) → SiteStands site.now plain → IfOk result (λ told. told ≡ answer plain question.now) }
+    ensures sure { IsTrue (is_sure_question question.now) → IsOk result }
 {
     let store = site.store();
     match question {

@@ -106,7 +106,7 @@ fn is_same(a: StateId, b: StateId) -> bool
 
 /// The states that the transaction reads; none where there is no transaction.
 fn states_read(alloc: Global, txn: Option<&Txn>) -> Result<StateList, NoMemory>
-    ensures { IfOk result (λ states. states ≡ option_map_or states_of (option_copied txn) []) }
+    ensures { IfOk result (λ states. states ≡ option_map_or states_of (option_copied txn.entry) []) }
 {
     let mut states = StateList::new(alloc);
     match txn {

@@ -10,8 +10,9 @@ use Rattle.plain_questions.specs.Answer.{next_floor}
 use Rattle.site_questions.proofs.sessions.floor_of.Goals as goal
 
 pub automatic_floor-requires : goal.automatic_floor-requires
-automatic_floor-requires c =
-    subst (λ t. AreSlots c.book.result.now t) (sym (c.dag-dag.ensures ∙ ap (λ s. s.table) c.store.ensures.is)) c.book.ensures.slots
+automatic_floor-requires c = record {
+  slots = subst (λ t. AreSlots c.book.result.now t) (sym (c.dag-dag.ensures ∙ ap (λ s. s.table) c.store.ensures.is)) c.book.ensures.slots;
+}
 
 pub returns : goal.returns
 returns c = λ plain stands.
