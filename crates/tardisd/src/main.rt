@@ -43,7 +43,10 @@ fn asked(rt: &HostRuntime) -> Result<Given, DaemonEnd> {
         Err(_) => return Err(DaemonEnd::Usage),
     };
     match drawn(rt) {
-        Ok((keys, life)) => Ok(Given { args, keys, life }),
+        Ok(drawn) => {
+            let (keys, life) = (drawn.0, drawn.1);
+            Ok(Given { args, keys, life })
+        }
         // a system without random bytes to give is told as one without memory
         Err(_) => Err(DaemonEnd::NoMemory),
     }
@@ -66,7 +69,9 @@ fn run(
 ) -> DaemonEnd {
     let mut output = output;
     match given {
-        Ok(Given { args, keys, life }) => {
+        Ok(given) => {
+            let life = given.life;
+            let Given { args, keys, .. } = given;
             let mut doors = SocketDoors::new(rt);
             let mut store = FileStore::new(rt);
             carry_out(
