@@ -142,15 +142,7 @@ fn ended<D: Doors>(
     let words = words_of(rt, alloc, line);
     let mut output = MemorySink::new(alloc, 0, 1, &[]).expect(rt, "room");
     let words = words.as_slice();
-    tardisd(
-        alloc,
-        keys(rt),
-        [7; 16],
-        words,
-        doors,
-        store,
-        &mut output,
-    )
+    tardisd(alloc, keys(rt), [7; 16], words, doors, store, &mut output)
 }
 
 /// The server with these words over a disk of these bytes, of which the listed calls fail, which is asked this.
@@ -202,6 +194,7 @@ fn after(
 
 /// The words of a site alone, and of the first of two.
 const ALONE: &str = "--listen unix:s --file f";
+
 const OF_TWO: &str = "--sites 2 --listen unix:s --file f";
 
 /// Lives of servers: their words, the tables that the first one answers, and the one that the next one does.
@@ -266,7 +259,8 @@ fn crash_leaves_what_was_told(
     let states = count_of_commits(told.as_slice()).saturating_add(1);
     let goes_on = count_of_commits(next.told.as_slice()) == 2;
     match next.found {
-        Some(found) => goes_on && (found.known == states || found.known == states.saturating_add(1)),
+        Some(found) => goes_on
+            && (found.known == states || found.known == states.saturating_add(1)),
         None => false,
     }
 }

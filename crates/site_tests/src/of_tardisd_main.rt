@@ -9,7 +9,9 @@ use std::process::Abort;
 use std::random::RandomSource;
 use tardis_base::ByteList;
 use tardis_io::MemorySink;
-use tardisd_main::{DaemonEnd, Doors, FileFault, FoundSite, GateFault, plan_of, serve_place, tardisd};
+use tardisd_main::{
+    DaemonEnd, Doors, FileFault, FoundSite, GateFault, plan_of, serve_place, tardisd,
+};
 
 /// The place of the site.
 const PLACE: Place = Place { sites: 3, site: 2 };
@@ -149,7 +151,8 @@ fn an_end_has_a_line_and_a_number(rt: HostRuntime) {
     let line = "tardisd: out of memory";
     assert!(rt; is_told(&rt, rt.alloc(), DaemonEnd::NoMemory, line, 6));
     let other = DaemonEnd::File(FileFault::OtherSite(PLACE));
-    let line = "tardisd: the file is that of site 2 of 3, and was left as it is: start it with --sites 3 --site 2";
+    let line =
+        "tardisd: the file is that of site 2 of 3, and was left as it is: start it with --sites 3 --site 2";
     assert!(rt; is_told(&rt, rt.alloc(), other, line, 13));
     let locked = DaemonEnd::File(FileFault::InUse);
     let line = "tardisd: another server has the file: end that one, or name another file";

@@ -74,15 +74,7 @@ fn run(
             let Given { args, keys, .. } = given;
             let mut doors = SocketDoors::new(rt);
             let mut store = FileStore::new(rt);
-            carry_out(
-                alloc,
-                keys,
-                life,
-                args,
-                &mut doors,
-                &mut store,
-                &mut output,
-            )
+            carry_out(alloc, keys, life, args, &mut doors, &mut store, &mut output)
         }
         Err(ended) => ended,
     }

@@ -107,6 +107,8 @@ pub keeps_file : {D P S K O : Type 0} (opens : List ℕ → Result P GateFault �
     → KeepsFile opens seen st k life old new was now before after words end
 keeps_file opens seen st k life old new was now before after words end plan says same keeps =
     λ asked path is filed.
-    let asks = same_some (daemon_of plan) asked (sym says ∙ is) in
-    (subst (λ (a : Daemon). KeepsAs opens seen st k life a path old new was now end) asks
-    (keeps path (subst (λ (a : Daemon). a.file ≡ Some path) (sym asks) filed)), same)
+    let asks = same_some (daemon_of plan) asked (sym says ∙ is) in (
+      subst (λ (a : Daemon). KeepsAs opens seen st k life a path old new was now end) asks
+          (keeps path (subst (λ (a : Daemon). a.file ≡ Some path) (sym asks) filed)),
+      same,
+    )

@@ -10,5 +10,8 @@ returns-in-Ok g c =
 
 pub returns-in-Err : goal.returns-in-Err
 returns-in-Err g c =
-    inl (is_refused g.K.Disk c.args.plan.place c.args.life c.args.site c.args.disk c.front_of.result c.in-Err.refused.end c.in-Err.refused.disk c.end_of.result
-    c.front_of.ensures.front c.requires.opens c.end_of.ensures c.in-Err.ensures.refused c.in-Err.ensures.cause c.in-Err.ensures.any_moment, refl)
+    inl (
+      is_refused g.K.Disk c.args.plan.place c.args.life c.args.site c.args.disk c.front_of.result c.in-Err.refused.end c.in-Err.refused.disk c.end_of.result
+          c.front_of.ensures.front c.requires.opens c.end_of.ensures c.in-Err.ensures.refused c.in-Err.ensures.cause c.in-Err.ensures.any_moment,
+      refl,
+    )

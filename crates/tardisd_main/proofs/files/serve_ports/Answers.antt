@@ -6,10 +6,14 @@ use Rattle.tardisd_main.proofs.files.serve_ports.Goals as goal
 
 pub returns-in-Ok : goal.returns-in-Ok
 returns-in-Ok g c = λ bodies site marks stands.
-    inr (c.serve.new.ports, c.in-Ok.end,
-    serves_file g.K.Disk c.args.tidy (option_map rule_of c.upkeep_of.result) bodies site c.args.log c.serve.new.machine c.close.result c.in-Ok.end
-    (g.P.Ports.seen c.args.ports) (g.P.Ports.seen c.serve.new.ports) c.upkeep_of.ensures.rule c.serve.ensures.opening c.close.ensures (marks, stands)
-    c.in-Ok.ensures.served, c.ending_of.ensures)
+    inr (
+      c.serve.new.ports,
+      c.in-Ok.end,
+      serves_file g.K.Disk c.args.tidy (option_map rule_of c.upkeep_of.result) bodies site c.args.log c.serve.new.machine c.close.result c.in-Ok.end
+          (g.P.Ports.seen c.args.ports) (g.P.Ports.seen c.serve.new.ports) c.upkeep_of.ensures.rule c.serve.ensures.opening c.close.ensures (marks, stands)
+          c.in-Ok.ensures.served,
+      c.ending_of.ensures,
+    )
 
 pub returns : goal.returns
 returns g c = λ bodies site marks stands.
