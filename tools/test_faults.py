@@ -2,10 +2,11 @@
 """Tests what no contract says of the edges of `tardis serve`: that a socket which takes few bytes at once gets all of them,
 that a connection which the system refuses is told, and that a session which waits for its turn sleeps.
 
-usage: tools/test_faults.py [TARDIS]
+usage: tools/test_faults.py [TARDIS [REQUESTS]]
 
 The program is the one that the last build left, unless another is named: a script before it would get the preloaded library
-too. It needs Linux and a C compiler (`cc`, or $CC) for `faulty_sockets.c`. Every wait has an end, and nothing is left behind.
+too. Each of the sessions that ask at once asks REQUESTS times, else 30,000. It needs Linux and a C compiler (`cc`, or $CC) for
+`faulty_sockets.c`. Every wait has an end, and nothing is left behind.
 """
 
 import os
@@ -18,13 +19,15 @@ import time
 
 import test_serve
 from servers import PATIENCE, first_line, stop
-from test_serve import OPEN_FOLLOWING, TOP, Client, bodies_of, connected, frame
+from test_serve import OPEN_FOLLOWING, PATIENCE_OF_ALL, TOP, Client, bodies_of, connected, frame
 
 HERE = os.path.dirname(os.path.abspath(__file__))
 STAT = b"\x10"
 # The number of the system's call in which a thread sleeps.
 FUTEX = {"x86_64": "202", "aarch64": "98"}.get(os.uname().machine)
-# So many sessions ask at once, each so many requests.
+# How it is called by a thread that waits for another's end (FUTEX_WAIT_BITSET and FUTEX_CLOCK_REALTIME, between processes).
+JOIN = "0x109"
+# So many sessions ask at once, each so many requests, unless another number is given.
 BUSY, REQUESTS = 8, 30_000
 # So long is the frame of a reply to Stat: one site, its length word with it.
 REPLY = 38
@@ -70,15 +73,15 @@ def test_refused_connection(program, folder, library):
     print("a refused connection is told")
 
 
-def keep_busy(address, faults):
+def keep_busy(address, requests, faults):
     """Asks again and again, without waiting for a reply before the next request."""
     try:
         with connected(address) as link:
-            asks = frame(OPEN_FOLLOWING) + frame(STAT) * REQUESTS
+            asks = frame(OPEN_FOLLOWING) + frame(STAT) * requests
             sender = threading.Thread(target=link.sendall, args=(asks,), daemon=True)
             sender.start()
             count, more = 0, b"."
-            while more and count < REPLY * REQUESTS:
+            while more and count < REPLY * requests:
                 more = link.recv(1 << 16)
                 count += len(more)
             sender.join(PATIENCE)
@@ -87,53 +90,68 @@ def keep_busy(address, faults):
 
 
 def sleepers(process):
-    """How many of its threads sleep until another wakes them."""
+    """How many of its threads sleep until another wakes them. One that waits for another's end isn't counted."""
     count = 0
     for thread in os.listdir("/proc/%d/task" % process.pid):
         try:
             with open("/proc/%d/task/%s/syscall" % (process.pid, thread), encoding="ascii") as file:
-                count += file.read().split()[0] == FUTEX
+                words = file.read().split()
+            count += words[0] == FUTEX and words[2] != JOIN
         except (FileNotFoundError, ProcessLookupError):
             pass
     return count
 
 
-def test_sleep(program, folder):
-    """While many sessions ask at once, some are found asleep. One more link is waited for meanwhile, so that no thread waits
-    for another's end."""
-    address = "unix:" + os.path.join(folder, "busy")
-    server = subprocess.Popen([program, "serve", "--listen", address, "--links", str(BUSY + 1)],
-                              stdin=subprocess.DEVNULL, stdout=subprocess.DEVNULL, stderr=subprocess.PIPE)
+def computed(process):
+    """How long it has computed, in the ticks of the system."""
+    with open("/proc/%d/stat" % process.pid, encoding="ascii") as file:
+        return sum(map(int, file.read().rpartition(")")[2].split()[11:13]))
+
+
+def serve_busy(program, address, requests, look):
+    """Serves many sessions that ask at once, and looks at the server until they are done. Where it computes nothing meanwhile
+    for long, a session sleeps for good. One more link is waited for, so that the server goes on."""
+    server = subprocess.Popen([program, "serve", "--listen", address, "--links", str(BUSY + 1)], stdin=subprocess.DEVNULL,
+                              stdout=subprocess.DEVNULL, stderr=subprocess.PIPE)
     try:
         first_line(server)
-        faults, end = [], time.monotonic() + PATIENCE
-        clients = [threading.Thread(target=keep_busy, args=(address, faults), daemon=True) for _ in range(BUSY)]
+        faults, last, since, end = [], None, time.monotonic(), time.monotonic() + PATIENCE_OF_ALL
+        clients = [threading.Thread(target=keep_busy, args=(address, requests, faults), daemon=True) for _ in range(BUSY)]
         for client in clients:
             client.start()
-        looks = found = 0
         while any(client.is_alive() for client in clients):
+            now = computed(server)
+            if now != last:
+                last, since = now, time.monotonic()
+            assert time.monotonic() < since + PATIENCE, "sessions wait, and all threads sleep"
             assert time.monotonic() < end, "sessions wait"
-            looks += 1
-            found += sleepers(server) > 0
+            look(server)
             time.sleep(0.001)
         assert not faults, faults
-        assert found > 0, "in %d looks no session that waits was asleep" % looks
         connected(address).close()
         assert server.wait(PATIENCE) == 0
-        print("asleep in %d of %d looks" % (found, looks))
     finally:
         stop(server)
 
 
+def test_sleep(program, folder, requests):
+    """While many sessions ask at once, some are found asleep."""
+    looks = []
+    serve_busy(program, "unix:" + os.path.join(folder, "busy"), requests, lambda server: looks.append(sleepers(server) > 0))
+    assert any(looks), "in %d looks no session that waits was asleep" % len(looks)
+    print("asleep in %d of %d looks" % (sum(looks), len(looks)))
+
+
 def main():
     program = os.path.abspath(sys.argv[1]) if sys.argv[1:] else os.path.join(TOP, "crates/tardis/out/tardis")
+    requests = int(sys.argv[2]) if sys.argv[2:] else REQUESTS
     folder = tempfile.mkdtemp()
     try:
         library = built(folder)
         test_short_writes(program, folder, library)
         test_refused_connection(program, folder, library)
         if FUTEX:
-            test_sleep(program, folder)
+            test_sleep(program, folder, requests)
     finally:
         shutil.rmtree(folder)
 
