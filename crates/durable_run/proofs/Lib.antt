@@ -8,5 +8,4 @@ mod Turning
 mod Running
 mod TurnEnds
 mod Prompts
-mod Sites
 pub mod Stores

@@ -1,6 +1,6 @@
 //! A durable run of a site.
 
-ghost use Rattle.std.specs.Prelude.{◌≡◌, ◌<◌, ◌≤◌, ◌⊎◌, ℕ, List, length, IsTrue, IfOk};
+ghost use Rattle.std.specs.Prelude.{◌≡◌, ◌<◌, ◌≤◌, ◌⊎◌, ℕ, List, length, IsTrue};
 ghost use Rattle.tardis_base.specs.Valid.{are_limits};
 ghost use Rattle.tardis_io.specs.Told.{WhileTold};
 ghost use Rattle.tardis_io.specs.Faults.{Rose};
@@ -8,13 +8,12 @@ ghost use Rattle.frame_cut.specs.Frames.{IsCut};
 ghost use Rattle.site_run.specs.Endings.{EndsAs, most_taken};
 ghost use Rattle.plain_site.specs.Site.{opening};
 ghost use Rattle.plain_site.specs.Step.{site_machine};
-ghost use Rattle.session_core.specs.Machine.{SiteStands, opened_with};
 ghost use Rattle.durable_run.specs.Ends.{RanOn, RanPromptly, NotOpened, source_of};
 ghost use Rattle.durable_run.specs.Turns.{Ended};
 
 use crate::runs::{run_durable, run_durable_device};
 use disk_store::Disk;
-use session_core::SiteCore;
+use site_commands::open_site;
 use std::alloc::Global;
 use std::hash::RandomState;
 use tardis_base::{Limits, NoMemory};
@@ -81,20 +80,4 @@ pub fn run_site_on_device<K: Disk, D: Duplex>(
         Ok(site) => run_durable_device(alloc, site, disk, limits.max_trail, device),
         Err(NoMemory) => (Status::NoMemory, disk),
     }
-}
-
-/// The site of this number, with these limits, which opens.
-pub(crate) fn open_site(
-    alloc: Global,
-    keys: RandomState,
-    limits: Limits,
-    own: u16,
-) -> Result<SiteCore, NoMemory>
-    requires limits { IsTrue (are_limits limits) }
-    requires first { 1 ≤ own }
-    requires last { own ≤ limits.sites }
-    ensures stands { IfOk result (λ core. SiteStands core (opened_with core)) }
-    ensures opened { IfOk result (λ core. opened_with core ≡ opening limits own) }
-{
-    SiteCore::new(alloc, keys, limits, own)
 }

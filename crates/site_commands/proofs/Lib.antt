@@ -2,5 +2,6 @@
 pub mod FrameRuns
 pub mod LineRuns
 pub mod NoMemory
+mod Openings
 mod Servers
 mod Counting

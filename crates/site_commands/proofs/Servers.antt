@@ -1,8 +1,7 @@
 -- What the end of a server says of its status.
-use Rattle.std.proofs.Common.{◌≡◌, ℕ, ◌<◌, ◌⊎◌, Bool, true, false, ◌||◌, cond, List, Option, Result, Ok, Err, OnErr, IfOk, nat_lt, refl, sym, ap, subst, inl}
+use Rattle.std.proofs.Common.{◌≡◌, ℕ, ◌<◌, ◌⊎◌, Bool, true, false, ◌||◌, cond, List, Option, Result, Ok, Err, OnErr, IfOk, nat_lt, refl, ap, inl}
 use Rattle.std.proofs.Common.{inr, arith}
 use Rattle.tardis_base.specs.Plain.{PlainMachine}
-use Rattle.tardis_base.specs.declared.records.Limits.{Limits}
 use Rattle.tardis_io.specs.declared.faults.WriteFault.{WriteFault as NotWritten}
 use Rattle.tardis_io.specs.declared.statuses.Status.TheVariants.{Ok as Well, WriteFault, NoMemory, GateFault, DialFault}
 use Rattle.tardis_io.specs.Statuses.{status_number}
@@ -16,32 +15,7 @@ use Rattle.serve_run.specs.declared.endings.Serving.{Serving}
 use Rattle.serve_run.specs.declared.endings.ServeEnd.{ServeEnd}
 use Rattle.serve_run.specs.declared.endings.ServeEnd.TheVariants.{NotBound, NotMade, Served}
 use Rattle.serve_run.specs.Serving.{Workload, ServeOutcome}
-use Rattle.plain_site.specs.Site.{opening}
-use Rattle.plain_site.specs.Sound.{IsSound}
-use Rattle.session_core.specs.Core.{Core}
-use Rattle.session_core.specs.Stands.{CoreStands}
-use Rattle.session_core.specs.Machine.{SiteStands, opened_with}
 use Rattle.site_commands.specs.Ends.{rounds_lack_memory, has_dial_fault, status_served, status_after}
-
--- a site that opens opened with the plain one
-opens_as : (core : Core) (limits : Limits) (own : ℕ) → CoreStands core (opening limits own) → opened_with core ≡ opening limits own
-opens_as core limits own s = subst (λ l. opening l core.book.own ≡ opening limits own) (sym s.limits) (ap (opening limits) s.own)
-
-opened_stands : (core : Core) (limits : Limits) (own : ℕ) → CoreStands core (opening limits own) → IsSound (opening limits own) →
-    SiteStands core (opened_with core)
-opened_stands core limits own stands sound = subst (SiteStands core) (sym (opens_as core limits own stands)) (stands, sound)
-
--- and where there is a site, it stands for the one with which it opened
-pub may_stand : {E : Type 0} (r : Result Core E) (limits : Limits) (own : ℕ) → IfOk r (λ core. CoreStands core (opening limits own)) →
-    IfOk r (λ core. IsSound (opening limits own))
-    → IfOk r (λ core. SiteStands core (opened_with core))
-may_stand (Ok core) limits own stands sound = opened_stands core limits own stands sound
-may_stand (Err e) limits own stands sound = tt
-
-pub may_open : {E : Type 0} (r : Result Core E) (limits : Limits) (own : ℕ) → IfOk r (λ core. CoreStands core (opening limits own))
-    → IfOk r (λ core. opened_with core ≡ opening limits own)
-may_open (Ok core) limits own stands = opens_as core limits own stands
-may_open (Err e) limits own stands = tt
 
 -- what failed at each end: R where the gate did, S where the output did, T where the dial did
 pub record Fails (R S T : Type 0) (end : ServeEnd) : Type 0 where

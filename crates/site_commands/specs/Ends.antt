@@ -5,7 +5,10 @@ use Rattle.tardis_io.specs.declared.statuses.Status.TheVariants.{Ok as Well, Wri
 use Rattle.tardis_io.specs.declared.faults.WriteFault.{WriteFault as NotWritten}
 use Rattle.tardis_io.specs.Told.{WhileTold}
 use Rattle.tardis_io.specs.Faults.{Rose}
-use Rattle.tardis_io.specs.Links.{ToldGate, ToldDial}
+use Rattle.tardis_io.specs.declared.streams.Sink.{Ghosts as ASink}
+use Rattle.tardis_io.specs.declared.duplexes.Duplex.{Ghosts as ADuplex}
+use Rattle.tardis_io.specs.declared.gates.Gate.{Ghosts as AGate}
+use Rattle.tardis_io.specs.declared.gates.Dial.{Ghosts as ADial}
 use Rattle.tardis_base.specs.declared.faults.NoMemory.{NoMemory as OutOfMemory}
 use Rattle.site_sync.specs.declared.ends.Rounds.{Rounds}
 use Rattle.frame_cut.specs.Frames.{IsCut}
@@ -74,16 +77,15 @@ status_after NotBound = GateFault
 status_after NotMade = NoMemory
 status_after (Served s) = if nat_lt 0 s.unserved || rounds_lack_memory s.rounds then NoMemory else status_served s.gate s.written (has_dial_fault s.rounds)
 
-module _ {L G X D O : Type 0} (link_left link_given : L → Option (List ℕ)) (link_takes link_gives : L → ℕ) (told : G → Option (ToldGate L)) (gates : G → ℕ)
-    (peer_left peer_given : X → Option (List ℕ)) (peer_takes peer_gives : X → ℕ) (dial_told : D → Option (ToldDial X)) (dials : D → ℕ)
-    (given : O → Option (List ℕ)) (writes : O → ℕ) (old new : G) (d e : D) (before after : O) where
+module _ {L G X D O : Type 0} (g : AGate G L) (l : ADuplex L) (gives : ASink L) (d : ADial D X) (x : ADuplex X) (dialled : ASink X) (o : ASink O)
+    (gate gate_now : G) (dial dial_now : D) (before after : O) where
   -- How a server with this work ends, whose lock opens with this plain site and whose trail has room for so many bytes. Its
   -- status is that of its end. Where neither the gate nor the dial nor the output counted a fault, all is well or there was
   -- no memory.
   pub record ServerEnds (site : Site) (max_trail : ℕ) (work : Workload) (status : Status) : Type 0 where
     pub end : ServeEnd
-    pub outcome : ServeOutcome opened_with site_machine link_left link_given link_takes link_gives peer_left peer_given peer_takes peer_gives dial_told dials
-        site max_trail told gates given writes work old new d e before after end
+    pub outcome : ServeOutcome opened_with site_machine l.left gives.given l.take_faults gives.faults x.left dialled.given x.take_faults dialled.faults
+        d.told d.faults site max_trail g.told g.faults o.given o.faults work gate gate_now dial dial_now before after end
     pub judged : status ≡ status_after end
-    pub complete : (Rose (gates old) (gates new) → ⊥) → (Rose (dials d) (dials e) → ⊥) → (Rose (writes before) (writes after) → ⊥)
-        → (status ≡ Well) ⊎ (status ≡ NoMemory)
+    pub complete : (Rose (g.faults gate) (g.faults gate_now) → ⊥) → (Rose (d.faults dial) (d.faults dial_now) → ⊥)
+        → (Rose (o.faults before) (o.faults after) → ⊥) → (status ≡ Well) ⊎ (status ≡ NoMemory)

@@ -1,17 +1,17 @@
 //! A site that links reach.
 
-ghost use Rattle.std.specs.Prelude.{◌≡◌, ◌≤◌, IsTrue, IfOk, length};
+ghost use Rattle.std.specs.Prelude.{◌≡◌, ◌≤◌, IsTrue, length};
 ghost use Rattle.tardis_base.specs.Valid.{are_limits};
 ghost use Rattle.plain_site.specs.Site.{opening};
 ghost use Rattle.plain_site.specs.Step.{site_machine};
-ghost use Rattle.session_core.specs.Machine.{SiteStands, opened_with};
+ghost use Rattle.session_core.specs.Machine.{opened_with};
 ghost use Rattle.serve_run.specs.Serving.{ServeOutcome, workload};
 ghost use Rattle.site_commands.specs.Ends.{CausedBy, ServerEnds, has_dial_fault, rounds_lack_memory, status_after, status_served};
 
 use crate::counts::sites_tell_counts;
+use crate::sites::open_site;
 use serve_pool::PoolEnd;
 use serve_run::{ServeEnd, ServeOptions, serve_links};
-use session_core::SiteCore;
 use site_sync::Rounds;
 use std::alloc::Global;
 use std::hash::RandomState;
@@ -41,8 +41,7 @@ pub fn serve<O: Sink, G: Gate, D: Dial + Send, R: Threads + Wait + Sync>(
     requires last { own ≤ limits.sites }
     requires peers { length options.peers.now ≤ 15 }
     requires rounds { options.rounds ≤ 1000000 }
-    ensures ends { ServerEnds G.Link.left G.Link.given G.Link.take_faults G.Link.faults G.told G.faults
-        D.Link.left D.Link.given D.Link.take_faults D.Link.faults D.told D.faults O.given O.faults gate.old gate.new dial.old dial.new output.old output.new
+    ensures ends { ServerEnds G.Gate G.Link.Duplex.own G.Link.Sink D.Dial D.Link.Duplex.own D.Link.Sink O.Sink gate.old gate.new dial.old dial.new output.old output.new
         (opening limits own) limits.max_trail (workload options.entry) result }
     ensures write { CausedBy Status.WriteFault (O.faults output.old) (O.faults output.new) result }
     ensures gate { CausedBy Status.GateFault (G.faults gate.old) (G.faults gate.new) result }
@@ -86,22 +85,6 @@ fn serve_site<O: Sink, G: Gate, D: Dial + Send, R: Threads + Wait + Sync>(
         ),
         Err(NoMemory) => ServeEnd::NotMade,
     }
-}
-
-/// The site of this number, with these limits, which opens.
-fn open_site(
-    alloc: Global,
-    keys: RandomState,
-    limits: Limits,
-    own: u16,
-) -> Result<SiteCore, NoMemory>
-    requires limits { IsTrue (are_limits limits) }
-    requires first { 1 ≤ own }
-    requires last { own ≤ limits.sites }
-    ensures stands { IfOk result (λ core. SiteStands core (opened_with core)) }
-    ensures opened { IfOk result (λ core. opened_with core ≡ opening limits own) }
-{
-    SiteCore::new(alloc, keys, limits, own)
 }
 
 /// The status of a server that ended so.

@@ -1,6 +1,9 @@
 -- How a server ends that had no memory: it listened to nothing, called nobody, and wrote nothing.
-use Rattle.std.proofs.Common.{◌≡◌, ℕ, Bool, true, false, ◌||◌, cond, nat_lt, List, Option, Result, Ok, Err, refl, ap, inr, arith}
-use Rattle.tardis_io.specs.Links.{ToldGate, ToldDial}
+use Rattle.std.proofs.Common.{◌≡◌, ℕ, Bool, true, false, ◌||◌, cond, nat_lt, Result, Ok, Err, refl, ap, inr, arith}
+use Rattle.tardis_io.specs.declared.streams.Sink.{Ghosts as ASink}
+use Rattle.tardis_io.specs.declared.duplexes.Duplex.{Ghosts as ADuplex}
+use Rattle.tardis_io.specs.declared.gates.Gate.{Ghosts as AGate}
+use Rattle.tardis_io.specs.declared.gates.Dial.{Ghosts as ADial}
 use Rattle.tardis_io.specs.declared.faults.WriteFault.{WriteFault as NotWritten}
 use Rattle.tardis_io.specs.declared.statuses.Status.TheVariants.{Usage, NoMemory}
 use Rattle.tardis_io.specs.Statuses.{status_number}
@@ -30,12 +33,10 @@ never_usage NotBound e = absurd (omega (arith, ap status_number e))
 never_usage NotMade e = absurd (omega (arith, ap status_number e))
 never_usage (Served s) e = served_never (nat_lt 0 s.unserved || rounds_lack_memory s.rounds) s.gate s.written (has_dial_fault s.rounds) e
 
-module _ {L G X D O : Type 0} (link_left link_given : L → Option (List ℕ)) (link_takes link_gives : L → ℕ) (told : G → Option (ToldGate L)) (gates : G → ℕ)
-    (peer_left peer_given : X → Option (List ℕ)) (peer_takes peer_gives : X → ℕ) (dial_told : D → Option (ToldDial X)) (dials : D → ℕ)
-    (given : O → Option (List ℕ)) (writes : O → ℕ) (gate : G) (dial : D) (output : O) where
+module _ {L G X D O : Type 0} (g : AGate G L) (l : ADuplex L) (gives : ASink L) (d : ADial D X) (x : ADuplex X) (dialled : ASink X) (o : ASink O)
+    (gate : G) (dial : D) (output : O) where
   pub no_server : (site : Site) (max_trail : ℕ) (work : Workload)
-      → ServerEnds link_left link_given link_takes link_gives told gates peer_left peer_given peer_takes peer_gives dial_told dials given writes gate gate
-      dial dial output output site max_trail work NoMemory
+      → ServerEnds g l gives d x dialled o gate gate dial dial output output site max_trail work NoMemory
   no_server site max_trail work = record {
     end = NotMade;
     outcome = record {

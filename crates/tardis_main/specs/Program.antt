@@ -104,9 +104,7 @@ module _ {L G X D O : Type 0} (g : AGate G L) (l : ADuplex L) (gives : ASink L) 
   -- they say, and the trail is written
   abbrev pub Serves : Type 0
   Serves = (plan : Serving) → AreServe words plan
-      → ServerEnds l.left gives.given l.take_faults gives.faults g.told g.faults x.left dialled.given x.take_faults dialled.faults d.told d.faults
-      o.given o.faults gate gate_now dial dial_now before after
-      (site_at plan.place) (program_limits plan.place.sites).max_trail (work_of plan) status
+      → ServerEnds g l gives d x dialled o gate gate_now dial dial_now before after (site_at plan.place) (program_limits plan.place.sites).max_trail (work_of plan) status
 
 module _ {I O K S : Type 0} (i : ASource I) (o : ASink O) (st : AStore S K) (k : ADisk K) (store store_now : S) (old new : I) (before after : O)
     (words : List (List ℕ)) (status : Status) where

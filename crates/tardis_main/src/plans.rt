@@ -28,8 +28,7 @@ pub(crate) fn serve_plan<O: Sink, G: Gate, D: Dial + Send, R: Threads + Wait + S
     requires place { IsPlace plan.now.place }
     requires peers { length plan.now.peers.items ≤ 15 }
     requires rounds { plan.now.rounds ≤ 1000000 }
-    ensures ends { ServerEnds G.Link.left G.Link.given G.Link.take_faults G.Link.faults G.told G.faults
-        D.Link.left D.Link.given D.Link.take_faults D.Link.faults D.told D.faults O.given O.faults gate.old gate.new dial.old dial.new output.old output.new
+    ensures ends { ServerEnds G.Gate G.Link.Duplex.own G.Link.Sink D.Dial D.Link.Duplex.own D.Link.Sink O.Sink gate.old gate.new dial.old dial.new output.old output.new
         (site_at plan.now.place) (program_limits plan.now.place.sites).max_trail (work_of (serving_of plan.now)) result }
     ensures write { CausedBy Status.WriteFault (O.faults output.old) (O.faults output.new) result }
     ensures gate { CausedBy Status.GateFault (G.faults gate.old) (G.faults gate.new) result }
