@@ -5,8 +5,8 @@ use Rattle.tardis_io.specs.Faults.{Rose}
 use Rattle.frame_cut.specs.Frames.{frame, IsBody, Cuts}
 use Rattle.frame_cut.proofs.Joins.{more_bodies}
 use Rattle.frame_cut.proofs.Words.{length-frame}
-use Rattle.durable_run.specs.declared.groups.Stop.{Stop}
-use Rattle.durable_run.specs.declared.groups.Stop.TheVariants.{Disk, Output}
+use Rattle.durable_run.specs.declared.groups.DeviceFault.{DeviceFault}
+use Rattle.durable_run.specs.declared.groups.DeviceFault.TheVariants.{Disk, Output}
 use Rattle.tardis_io.specs.declared.streams.Sink.{Ghosts as ASink}
 use Rattle.disk_store.specs.declared.disks.Disk.{Ghosts as ADisk}
 use Rattle.durable_run.specs.Turns.{Went, Stopped}
@@ -26,7 +26,7 @@ module _ {K : Type 0} (k : ADisk K) where
     as_honest = ((λ h. q.as_honest.0 (p.as_honest.0 h)), (λ h. p.as_honest.1 (q.as_honest.1 h)));
   }
 
-  pub stopped_later : {O : Type 0} (snk : ASink O) (a b : K) (x y z : O) (stop : Stop K) → Went k a b → snk.faults x ≤ snk.faults y →
+  pub stopped_later : {O : Type 0} (snk : ASink O) (a b : K) (x y z : O) (stop : DeviceFault K) → Went k a b → snk.faults x ≤ snk.faults y →
       Stopped k snk b y z stop → Stopped k snk a x z stop
   stopped_later snk a b x y z (Disk d) w less s = record {
     went = went_then a b d w s.went;

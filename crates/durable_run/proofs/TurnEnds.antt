@@ -9,8 +9,8 @@ use Rattle.tardis_io.specs.declared.streams.Source.{Ghosts as ASource}
 use Rattle.tardis_io.specs.declared.streams.Sink.{Ghosts as ASink}
 use Rattle.disk_store.specs.declared.disks.Disk.{Ghosts as ADisk}
 use Rattle.durable_run.specs.Ends.{as_in_midst}
-use Rattle.durable_run.specs.declared.groups.Stop.{Stop}
-use Rattle.durable_run.specs.declared.groups.Stop.TheVariants.{Disk, Output}
+use Rattle.durable_run.specs.declared.groups.DeviceFault.{DeviceFault}
+use Rattle.durable_run.specs.declared.groups.DeviceFault.TheVariants.{Disk, Output}
 use Rattle.durable_run.specs.Turns.{Went, Ended, Stopped}
 use Rattle.durable_run.proofs.Bodies.{rose_earlier, went_same, went_then}
 use Rattle.durable_run.proofs.Running.{number}
@@ -55,7 +55,7 @@ module _ {K I O : Type 0} (k : ADisk K) (src : ASource I) (snk : ASink O) where
   }
 
   -- the disk failed
-  pub ended_disk : (disk now : K) (i j : I) (o p : O) (stop : Stop K) → stop ≡ Disk now → Stopped k snk disk o p stop →
+  pub ended_disk : (disk now : K) (i j : I) (o p : O) (stop : DeviceFault K) → stop ≡ Disk now → Stopped k snk disk o p stop →
       Ended k src snk disk now i j o p DiskFault
   ended_disk disk now i j o p stop is stopped =
       let s = subst (λ z. Stopped k snk disk o p z) is stopped in record {
@@ -67,7 +67,7 @@ module _ {K I O : Type 0} (k : ADisk K) (src : ASource I) (snk : ASink O) where
       }
 
   -- the sink failed
-  pub ended_output : (disk now : K) (i j : I) (o p : O) (stop : Stop K) → stop ≡ Output now → Stopped k snk disk o p stop →
+  pub ended_output : (disk now : K) (i j : I) (o p : O) (stop : DeviceFault K) → stop ≡ Output now → Stopped k snk disk o p stop →
       Ended k src snk disk now i j o p WriteFault
   ended_output disk now i j o p stop is stopped =
       let s = subst (λ z. Stopped k snk disk o p z) is stopped in record {

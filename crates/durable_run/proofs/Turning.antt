@@ -14,8 +14,8 @@ use Rattle.site_journal.specs.declared.journals.Journaled.{Journaled}
 use Rattle.site_run.specs.Endings.{Ends, most_taken}
 use Rattle.durable_run.specs.Groups.{Start, Grouping, Taking}
 use Rattle.durable_run.specs.Ends.{as_in_midst, Durable}
-use Rattle.durable_run.specs.declared.groups.Stop.{Stop}
-use Rattle.durable_run.specs.declared.groups.Stop.TheVariants.{Disk, Output}
+use Rattle.durable_run.specs.declared.groups.DeviceFault.{DeviceFault}
+use Rattle.durable_run.specs.declared.groups.DeviceFault.TheVariants.{Disk, Output}
 use Rattle.durable_run.specs.Turns.{EndsSo, IsStop}
 use Rattle.durable_run.proofs.Grouped.{rested}
 use Rattle.durable_run.proofs.Outcomes.{outcome}
@@ -213,12 +213,12 @@ module _ {M K : Type 0} (m : AMachine M) (k : ADisk K) where
       (stopped at) moved within refl (omega (arith, few, less)) t)
 
   -- the same where it is told what stopped the run
-  abbrev pub WasStopped : Journaled M K → Stop K → Option (List ℕ) → Option (List ℕ) → List ℕ → Type 0
+  abbrev pub WasStopped : Journaled M K → DeviceFault K → Option (List ℕ) → Option (List ℕ) → List ℕ → Type 0
   WasStopped old stop given now bytes = (at : Start m.Plain K) (bodies : List (List ℕ)) →
       Grouping m k at old given [] bodies
       → (more : List (List ℕ)) × ((rest : List ℕ) × (Cuts bytes more rest × IsStop m.plain k at stop now (bodies ++ more)))
 
-  pub told_disk : (a b : Option (List ℕ)) (old : Journaled M K) (stop : Stop K) (disk : K) (given now : Option (List ℕ)) (held buf : List ℕ) (n size : ℕ)
+  pub told_disk : (a b : Option (List ℕ)) (old : Journaled M K) (stop : DeviceFault K) (disk : K) (given now : Option (List ℕ)) (held buf : List ℕ) (n size : ℕ)
       → stop ≡ Disk disk → WasStopped old stop given now (held ++ take n buf) → n ≤ length buf → n ≤ size
       → WhileTold a b (λ before after. Takes before after (Ok n) buf) → WhileTold a b (EndsHere old DiskFault disk given now held size)
   told_disk a b old stop disk given now held buf n size is stopped within less told =
@@ -227,7 +227,7 @@ module _ {M K : Type 0} (m : AMachine M) (k : ADisk K) where
       (x.0, (x.1.0, (x.1.1.0, subst (λ s. IsStop m.plain k at s now (bodies ++ x.0)) is x.1.1.1))))
       within less told
 
-  pub told_output : (a b : Option (List ℕ)) (old : Journaled M K) (stop : Stop K) (disk : K) (given now : Option (List ℕ)) (held buf : List ℕ) (n size : ℕ)
+  pub told_output : (a b : Option (List ℕ)) (old : Journaled M K) (stop : DeviceFault K) (disk : K) (given now : Option (List ℕ)) (held buf : List ℕ) (n size : ℕ)
       → stop ≡ Output disk → WasStopped old stop given now (held ++ take n buf) → n ≤ length buf → n ≤ size
       → WhileTold a b (λ before after. Takes before after (Ok n) buf) → WhileTold a b (EndsHere old WriteFault disk given now held size)
   told_output a b old stop disk given now held buf n size is stopped within less told =

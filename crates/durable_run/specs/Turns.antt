@@ -7,10 +7,10 @@ use Rattle.tardis_io.specs.Faults.{Rose}
 use Rattle.frame_cut.specs.Frames.{IsPartial, IsLong}
 use Rattle.disk_store.specs.Disks.{AsHonest}
 use Rattle.site_run.specs.Endings.{Outcome, IsRunEnd}
-use Rattle.durable_run.specs.declared.groups.Stop.{Stop}
-use Rattle.durable_run.specs.declared.groups.Stop.TheVariants.{Disk, Output}
-use Rattle.durable_run.specs.declared.pieces.Next.{Next}
-use Rattle.durable_run.specs.declared.pieces.Next.TheVariants.{Part, Long}
+use Rattle.durable_run.specs.declared.groups.DeviceFault.{DeviceFault}
+use Rattle.durable_run.specs.declared.groups.DeviceFault.TheVariants.{Disk, Output}
+use Rattle.durable_run.specs.declared.pieces.Remainder.{Remainder}
+use Rattle.durable_run.specs.declared.pieces.Remainder.TheVariants.{Part, Long}
 use Rattle.durable_run.specs.declared.buffers.Buffers.{Buffers}
 use Rattle.durable_run.specs.Groups.{Start}
 use Rattle.durable_run.specs.Ends.{as_in_midst, Durable}
@@ -31,22 +31,22 @@ pub record AreReady (b : Buffers) : Type 0 where
   pub room : b.gathered.room ≡ most_gathered
 
 -- these bytes are what the answer says of them
-abbrev pub IsBehind : Next → List ℕ → Type 0
+abbrev pub IsBehind : Remainder → List ℕ → Type 0
 IsBehind Part rest = IsPartial rest
 IsBehind (Long len) rest = IsLong rest len
 
 module _ {K : Type 0} where
-  abbrev pub disk_stopped : Stop K → K
+  abbrev pub disk_stopped : DeviceFault K → K
   disk_stopped (Disk disk) = disk
   disk_stopped (Output disk) = disk
 
   -- the fault that stopped the run was counted
-  abbrev pub StopRose : {O : Type 0} → ADisk K → ASink O → K → O → O → Stop K → Type 0
+  abbrev pub StopRose : {O : Type 0} → ADisk K → ASink O → K → O → O → DeviceFault K → Type 0
   StopRose k o disk old new (Disk now) = Rose (k.faults disk) (k.faults now)
   StopRose k o disk old new (Output now) = Rose (o.faults old) (o.faults new)
 
   -- a disk or a sink stopped the run
-  pub record Stopped {O : Type 0} (k : ADisk K) (o : ASink O) (disk : K) (old new : O) (stop : Stop K) : Type 0 where
+  pub record Stopped {O : Type 0} (k : ADisk K) (o : ASink O) (disk : K) (old new : O) (stop : DeviceFault K) : Type 0 where
     pub went : Went k disk (disk_stopped stop)
     pub rose : StopRose k o disk old new stop
 
@@ -61,7 +61,7 @@ module _ {K : Type 0} where
 
 module _ {S K : Type 0} (plain : PlainMachine S) (k : ADisk K) where
   -- what the bodies came to that were answered when the run was stopped
-  abbrev pub IsStop : Start S K → Stop K → Option (List ℕ) → List (List ℕ) → Type 0
+  abbrev pub IsStop : Start S K → DeviceFault K → Option (List ℕ) → List (List ℕ) → Type 0
   IsStop at (Disk disk) given bodies = Durable plain k DiskFault at disk given bodies
   IsStop at (Output disk) given bodies = Durable plain k WriteFault at disk given bodies
 

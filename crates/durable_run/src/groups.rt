@@ -18,7 +18,7 @@ use wire_talk::write_reply;
 
 /// What stopped a run in its midst. The disk is handed back.
 #[derive(Drop)]
-pub(crate) enum Stop<K: Disk> {
+pub(crate) enum DeviceFault<K: Disk> {
     Disk(K),
     Output(K),
 }
@@ -72,7 +72,7 @@ pub(crate) fn settle<M: Machine, K: Disk, O: Sink>(
     journal: Journaled<M, K>,
     gathered: &mut Gathered,
     output: &mut O,
-) -> Result<Journaled<M, K>, Stop<K>>
+) -> Result<Journaled<M, K>, DeviceFault<K>>
     requires room { gathered.old.room ≡ most_gathered }
     requires group { (at : Start M.Plain K) × ((bodies : List (List ℕ))
         × Grouping M.Machine K.Disk at journal (O.given output.old) gathered.old.bytes bodies) }
@@ -94,9 +94,9 @@ pub(crate) fn settle<M: Machine, K: Disk, O: Sink>(
     match journal.commit() {
         Ok(journal) => match gathered.write_to(output) {
             Ok(()) => Ok(journal),
-            Err(WriteFault) => Err(Stop::Output(journal.close().1)),
+            Err(WriteFault) => Err(DeviceFault::Output(journal.close().1)),
         },
-        Err(disk) => Err(Stop::Disk(disk)),
+        Err(disk) => Err(DeviceFault::Disk(disk)),
     }
 }
 
@@ -105,7 +105,7 @@ pub(crate) fn make_room<M: Machine, K: Disk, O: Sink>(
     journal: Journaled<M, K>,
     gathered: &mut Gathered,
     output: &mut O,
-) -> Result<Journaled<M, K>, Stop<K>>
+) -> Result<Journaled<M, K>, DeviceFault<K>>
     requires room { gathered.old.room ≡ most_gathered }
     requires group { (at : Start M.Plain K) × ((bodies : List (List ℕ))
         × Grouping M.Machine K.Disk at journal (O.given output.old) gathered.old.bytes bodies) }

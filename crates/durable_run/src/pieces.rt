@@ -7,7 +7,7 @@ ghost use Rattle.durable_run.specs.Buffering.{most_gathered};
 ghost use Rattle.durable_run.specs.Groups.{Start, Grouping};
 ghost use Rattle.durable_run.specs.Turns.{Went, Stopped, IsStop, IsBehind};
 
-use crate::groups::{Stop, answer_body, make_room, settle};
+use crate::groups::{DeviceFault, answer_body, make_room, settle};
 use disk_store::Disk;
 use frame_cut::{Cut, FrameCutter};
 use site_journal::Journaled;
@@ -17,7 +17,7 @@ use tardis_io::Sink;
 
 /// What stands behind the frames that were answered.
 #[derive(Clone, Copy)]
-pub(crate) enum Next {
+pub(crate) enum Remainder {
     /// No bytes, or a proper prefix of a frame.
     Part,
     /// A length word above 1,048,576.
@@ -31,7 +31,7 @@ fn answer_frame<M: Machine, K: Disk, O: Sink>(
     reply: &mut ReplyBuf,
     gathered: &mut Gathered,
     output: &mut O,
-) -> Result<Journaled<M, K>, Stop<K>>
+) -> Result<Journaled<M, K>, DeviceFault<K>>
     requires body { length body.now ≤ longest_frame }
     requires room { gathered.old.room ≡ most_gathered }
     requires group { (at : Start M.Plain K) × ((bodies : List (List ℕ))
@@ -65,7 +65,7 @@ fn answer_held<M: Machine, K: Disk, O: Sink>(
     reply: &mut ReplyBuf,
     gathered: &mut Gathered,
     output: &mut O,
-) -> Result<(Journaled<M, K>, Next), Stop<K>>
+) -> Result<(Journaled<M, K>, Remainder), DeviceFault<K>>
     requires room { gathered.old.room ≡ most_gathered }
     requires group { (at : Start M.Plain K) × ((bodies : List (List ℕ))
         × Grouping M.Machine K.Disk at journal (O.given output.old) gathered.old.bytes bodies) }
@@ -92,8 +92,8 @@ fn answer_held<M: Machine, K: Disk, O: Sink>(
                 Ok(answered) => journal = answered,
                 Err(stop) => return Err(stop),
             },
-            Cut::NeedMore => return Ok((journal, Next::Part)),
-            Cut::Long { len } => return Ok((journal, Next::Long(len))),
+            Cut::NeedMore => return Ok((journal, Remainder::Part)),
+            Cut::Long { len } => return Ok((journal, Remainder::Long(len))),
         }
     }
 }
@@ -106,7 +106,7 @@ pub(crate) fn answer_piece<M: Machine, K: Disk, O: Sink>(
     gathered: &mut Gathered,
     output: &mut O,
     piece: &[u8],
-) -> Result<(Journaled<M, K>, Next), Stop<K>>
+) -> Result<(Journaled<M, K>, Remainder), DeviceFault<K>>
     requires partial { IsPartial cutter.old }
     requires size { length piece.now ≤ piece_size }
     requires none { gathered.old.bytes ≡ [] }

@@ -15,8 +15,8 @@ ghost use Rattle.durable_run.specs.Turns.{Went, AreReady, Ended, EndsSo};
 ghost use Rattle.durable_run.specs.Ends.{RanOn, RanPromptly, NotOpened, source_of};
 
 use crate::buffers::Buffers;
-use crate::groups::Stop;
-use crate::pieces::{Next, answer_piece};
+use crate::groups::DeviceFault;
+use crate::pieces::{Remainder, answer_piece};
 use disk_store::Disk;
 use frame_cut::FrameCutter;
 use site_journal::{Journaled, OpenEnd, open_on};
@@ -182,11 +182,11 @@ fn turn<M: Machine, K: Disk, D: Duplex>(
         Ok(count) => {
             match answer_piece(journal, cutter, reply, gathered, device, &piece[..count]) {
                 Ok((journal, next)) => match next {
-                    Next::Part => Ok((journal, count)),
-                    Next::Long(len) => Err((Status::LongFrame { len }, journal.close().1)),
+                    Remainder::Part => Ok((journal, count)),
+                    Remainder::Long(len) => Err((Status::LongFrame { len }, journal.close().1)),
                 },
-                Err(Stop::Disk(disk)) => Err((Status::DiskFault, disk)),
-                Err(Stop::Output(disk)) => Err((Status::WriteFault, disk)),
+                Err(DeviceFault::Disk(disk)) => Err((Status::DiskFault, disk)),
+                Err(DeviceFault::Output(disk)) => Err((Status::WriteFault, disk)),
             }
         }
         Err(Failed) => Err((Status::ReadFault, journal.close().1)),
