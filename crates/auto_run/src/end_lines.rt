@@ -4,6 +4,7 @@ ghost use Rattle.std.specs.Prelude.{◌≡◌, ◌+◌, ◌≤◌, ◌++◌, ◌
 ghost use Rattle.merge_rules.specs.declared.steps.AutoEnd.TheVariants.{Merged as MergedAs, Refused as RefusedAs, Single as SingleAs, Unmerged as UnmergedAs};
 ghost use Rattle.merge_rules.specs.declared.steps.AutoEnd.TheVariants.{Wide as WideAs};
 ghost use Rattle.wire_talk.specs.Valid.{is_refusal};
+ghost use Rattle.shell_run.specs.Outcomes.{longest_shell_line};
 ghost use Rattle.auto_run.specs.AutoLines.{end_line};
 ghost use Rattle.auto_run.specs.Telling.{CanBeTold};
 
@@ -32,7 +33,7 @@ impl EndLines {
     /// Puts the line of how an auto step ended, and a line feed, behind what was gathered.
     pub(crate) fn put(&mut self, end: AutoEnd, out: &mut Gathered)
         requires told { CanBeTold end }
-        requires room { length out.old.bytes + 4194369 ≤ out.old.room }
+        requires room { length out.old.bytes + longest_shell_line ≤ out.old.room }
         ensures bytes { out.new.bytes ≡ out.old.bytes ++ (end_line end ++ 10 ∷ []) }
         ensures room { out.new.room ≡ out.old.room }
     {

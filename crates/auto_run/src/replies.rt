@@ -3,6 +3,7 @@
 ghost use Rattle.std.specs.Prelude.{◌≡◌, ◌+◌, ◌≤◌, [], length};
 ghost use Rattle.plain_site.specs.Site.{Site};
 ghost use Rattle.site_run.specs.Responses.{Responded};
+ghost use Rattle.shell_run.specs.Outcomes.{longest_shell_line};
 ghost use Rattle.session_core.specs.Stands.{StandsForSite};
 ghost use Rattle.session_core.specs.Machine.{SiteStands, opened_with};
 ghost use Rattle.merge_rules.specs.Auto.{auto_step};
@@ -14,7 +15,7 @@ use crate::ruled_sites::RuledSite;
 use merge_rules::auto_step;
 use rule_list::RuleList;
 use session_core::SiteCore;
-use shell_run::ShellReplies;
+use shell_run::{MAX_SHELL_LINE, ShellReplies};
 use site_run::{Gathered, Responder};
 use std::alloc::Global;
 use tardis_base::NoMemory;
@@ -46,7 +47,7 @@ fn put_step(
     out: &mut Gathered,
 )
     requires stands { StandsForSite core.old }
-    requires room { length out.old.bytes + 4194369 ≤ out.old.room }
+    requires room { length out.old.bytes + longest_shell_line ≤ out.old.room }
     ensures answer { (site : Site) → SiteStands core.old site
         → Responded (StepAnswers actor rules.now) (SiteStands core.new) site [] out.old.bytes out.new.bytes }
     ensures room { out.new.room ≡ out.old.room }
@@ -69,9 +70,9 @@ impl Responder<RuledSite> for AutoReplies {
 
     ghost opening = { λ t. ruled_opening t.core t.rules };
 
-    ghost MOST = { 4194369 };
+    ghost MOST = { longest_shell_line };
 
-    const MOST: usize = 4_194_369;
+    const MOST: usize = MAX_SHELL_LINE;
 
     fn respond(&mut self, subject: &mut RuledSite, body: &[u8], out: &mut Gathered) {
         match auto_actor(body) {
