@@ -83,8 +83,7 @@ returns-in-Err-clause-load g c = λ start steps are.
 
 pub returns-in-Err-clause-serve : goal.returns-in-Err-clause-serve
 returns-in-Err-clause-serve g c = λ plan are.
-    no_server g.G.Link.Duplex.left g.G.Link.Sink.given g.G.Link.Duplex.take_faults g.G.Link.Sink.faults g.G.Gate.told g.G.Gate.faults
-    g.D.Link.Duplex.left g.D.Link.Sink.given g.D.Link.Duplex.take_faults g.D.Link.Sink.faults g.D.Dial.told g.D.Dial.faults g.O.Sink.given g.O.Sink.faults
+    no_server g.G.Gate g.G.Link.Duplex g.G.Link.Sink g.D.Dial g.D.Link.Duplex g.D.Link.Sink g.O.Sink
     c.args.gate.now c.args.dial.now c.args.output.now
     (site_at plan.place) (program_limits plan.place.sites).max_trail (work_of plan)
 
