@@ -4,7 +4,7 @@
 usage: bench/start.py [--tardisd PROGRAM] [--folder FOLDER] [RECORDS ..]
 
 The file is made in FOLDER, the folder that this is called in where none is named, by a server that collects and a client that commits so
-many transactions of one key of its own, of 32 bytes, pipelined; it is removed. Then the server is killed and started again, three times.
+many transactions of one key of its own, of 32 bytes, each at once and the next once it was answered, since pipelining outruns the collection; it is removed. Then the server is killed and started again, three times.
 A line tells how many records there are, how many bytes their log has, the transactions a second that made it, the least seconds from
 starting a server to its line that it listens, and the most memory that it held. The client is `client.c`, which needs a C compiler
 (`cc`, or $CC)."""
@@ -43,7 +43,7 @@ def written(client, program, folder, socket, records):
     """Makes a log of so many records. Tells how many were made a second."""
     process, _ = started(program, folder, socket, "--tidy")
     try:
-        return ask(client, process, ["-f", "-n", records, "tardis", "transactions", "pipelined", "unix:" + socket])["rate"]
+        return ask(client, process, ["-f", "-n", records, "tardis", "transactions", "together", "unix:" + socket])["rate"]
     finally:
         ended(process)
         process.stderr.close()
