@@ -1,5 +1,6 @@
 -- What holds of the book's memory at all times.
 use Rattle.std.specs.Prelude.{◌≤◌, length}
+use Rattle.tardis_base.specs.Sizes.{most_sites, most_sessions}
 use Rattle.ceiling_book.specs.declared.CeilingBook.TheInside.{Inside}
 use Rattle.ceiling_book.specs.Book.{Book}
 
@@ -17,6 +18,6 @@ seen a = record {
 pub record IsHeld (a : Inside) : Type 0 where
   pub first : 1 ≤ a.own
   pub last : a.own ≤ length a.floors.items
-  pub sites : length a.floors.items ≤ 16
-  pub few : a.max_sessions ≤ 256
+  pub sites : length a.floors.items ≤ most_sites
+  pub few : a.max_sessions ≤ most_sessions
   pub within : length a.sessions.entries ≤ a.max_sessions

@@ -4,6 +4,7 @@ ghost use Rattle.std.specs.Prelude.{◌≡◌, ◌||◌, ℕ, Bool, Some, List, 
 ghost use Rattle.std.specs.List.{list_all};
 ghost use Rattle.tardis_base.specs.declared.ids.StateId.{StateId};
 ghost use Rattle.tardis_base.specs.declared.records.Record.{Record};
+ghost use Rattle.tardis_base.specs.Sizes.{most_named};
 ghost use Rattle.tardis_base.specs.Keys.{is_key_before, is_key_among};
 ghost use Rattle.plain_dag.specs.Conflicts.{conflict_keys};
 ghost use Rattle.state_dag.specs.Table.{id_at, is_slot};
@@ -16,10 +17,7 @@ use branch_region::region;
 use record_store::{KeyChunks, RecordStore};
 use std::alloc::Global;
 use std::collections::BTreeSet;
-use tardis_base::{Key, KeyList, NoMemory, Slot};
-
-/// How many keys a page shows.
-const SHOWN: usize = 256;
+use tardis_base::{Key, KeyList, MAX_NAMED, NoMemory, Slot};
 
 /// How many keys there are, or 4,294,967,295 where there are more, and the least 256 of them in ascending order.
 #[derive(Drop)]
@@ -120,11 +118,11 @@ fn page_of(alloc: Global, keys: &BTreeSet<Key>) -> Result<KeyPage, NoMemory>
 
 /// Copies of the keys that a page shows.
 fn first_of(alloc: Global, keys: &BTreeSet<Key>) -> Result<KeyList, NoMemory>
-    ensures { IfOk result (λ first. first ≡ take 256 keys.now.keys) }
+    ensures { IfOk result (λ first. first ≡ take most_named keys.now.keys) }
 {
     let mut first = KeyList::new(alloc);
     for key in keys.iter() {
-        if first.len() == SHOWN {
+        if first.len() == MAX_NAMED {
             return Ok(first);
         }
         first.push(key.copy()?)?;

@@ -6,6 +6,7 @@ ghost use Rattle.std.specs.List.{list_all, list_any};
 ghost use Rattle.tardis_base.specs.declared.ids.StateId.{StateId};
 ghost use Rattle.tardis_base.specs.declared.ids.Slot.{Slot};
 ghost use Rattle.tardis_base.specs.declared.records.Record.{Record};
+ghost use Rattle.tardis_base.specs.Sizes.{most_kept, most_named};
 ghost use Rattle.plain_dag.specs.Forks.{leaves, fork_points};
 ghost use Rattle.state_dag.specs.Table.{id_at, is_slot, is_slot_above};
 ghost use Rattle.state_dag.specs.Stands.{Stands};
@@ -14,10 +15,7 @@ ghost use Rattle.fork_points.specs.Pages.{IsPageOf};
 use branch_region::region;
 use state_dag::StateDag;
 use std::alloc::Global;
-use tardis_base::{NoMemory, Slot, StateList};
-
-/// How many states a page shows.
-const SHOWN: usize = 256;
+use tardis_base::{MAX_NAMED, NoMemory, Slot, StateList};
 
 /// How many states there are, and the first 256 of them in arrival order.
 #[derive(Drop)]
@@ -60,7 +58,7 @@ pub fn leaf_page(alloc: Global, dag: &StateDag) -> Result<StatePage, NoMemory>
 /// The page of the states at these slots.
 fn page_of(alloc: Global, dag: &StateDag, slots: &[Slot]) -> Result<StatePage, NoMemory>
     requires { IsTrue (list_all (is_slot dag.now) slots.now) }
-    ensures { (xs : List StateId) → map (id_at dag.now) slots.now ≡ map (λ x. Some x) xs → length xs ≤ 16384 → IfOk result (IsPageOf xs) }
+    ensures { (xs : List StateId) → map (id_at dag.now) slots.now ≡ map (λ x. Some x) xs → length xs ≤ most_kept → IfOk result (IsPageOf xs) }
 {
     Ok(StatePage {
         total: slots.len().min(u32::MAX as usize) as u32,
@@ -71,11 +69,11 @@ fn page_of(alloc: Global, dag: &StateDag, slots: &[Slot]) -> Result<StatePage, N
 /// The states at the slots that a page shows.
 fn first_of(alloc: Global, dag: &StateDag, slots: &[Slot]) -> Result<StateList, NoMemory>
     requires { IsTrue (list_all (is_slot dag.now) slots.now) }
-    ensures { (xs : List StateId) → map (id_at dag.now) slots.now ≡ map (λ x. Some x) xs → IfOk result (λ first. first ≡ take 256 xs) }
+    ensures { (xs : List StateId) → map (id_at dag.now) slots.now ≡ map (λ x. Some x) xs → IfOk result (λ first. first ≡ take most_named xs) }
 {
     let mut first = StateList::new(alloc);
     for slot in slots {
-        if first.len() == SHOWN {
+        if first.len() == MAX_NAMED {
             return Ok(first);
         }
         first.push(dag.id_of(*slot))?;

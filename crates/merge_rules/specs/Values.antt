@@ -8,6 +8,7 @@ use Rattle.std.specs.Str.Parse.{signed_digits_value}
 use Rattle.tardis_base.specs.declared.ids.StateId.{StateId}
 use Rattle.tardis_base.specs.declared.records.Write.{Write}
 use Rattle.tardis_base.specs.declared.records.Write.TheVariants.{Put, Delete}
+use Rattle.tardis_base.specs.Sizes.{longest_value}
 use Rattle.tardis_base.specs.Ids.{is_before}
 use Rattle.tardis_base.specs.Keys.{are_ascending_keys, with_key}
 use Rattle.rule_list.specs.declared.rules.Rule.{Rule}
@@ -90,7 +91,7 @@ union (x ∷ xs) ys = with_key x (union xs ys)
 
 -- the value that writes the set, where it isn't too long
 abbrev pub written_set : List (List ℕ) → Option Write
-written_set items = then_some (nat_le (length (join_with_byte 44 items)) 4096) (Put (join_with_byte 44 items))
+written_set items = then_some (nat_le (length (join_with_byte 44 items)) longest_value) (Put (join_with_byte 44 items))
 
 abbrev pub united : Option (List (List ℕ)) → Option (List (List ℕ)) → Option Write
 united (Some xs) (Some ys) = written_set (union xs ys)

@@ -15,12 +15,12 @@ use Rattle.plain_dag.specs.Floors.{Floor, Session, is_above_ceilings}
 use Rattle.plain_dag.specs.Collection.{is_kept, kept_states}
 use Rattle.plain_dag.specs.Paths.{fork_path}
 use Rattle.plain_dag.specs.Laws.{AreCollected}
-use Rattle.tardis_base.specs.Sizes.{most_waiting}
+use Rattle.tardis_base.specs.Sizes.{most_reads, most_waiting}
 use Rattle.plain_site.specs.Site.{Site, Txn, Single, Merge, read_states, own_floor}
 
 -- at most 256 keys read, each once, and writes as a record has them; a merge has 1 to 8 states, ascending
 abbrev pub is_txn : Txn → Bool
-is_txn (Single t) = nat_le (length t.reads) 256 && list_all is_key t.reads && are_ascending_keys t.reads && are_writes t.writes
+is_txn (Single t) = nat_le (length t.reads) most_reads && list_all is_key t.reads && are_ascending_keys t.reads && are_writes t.writes
 is_txn (Merge t) = are_parents t.states && are_writes t.writes
 
 -- the transaction of an open session: within its limits, at states that are known, admitted under the ceiling, and apart
