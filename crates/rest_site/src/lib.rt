@@ -58,6 +58,13 @@ impl RestSite {
         Ok(RestSite { core, alloc })
     }
 
+    /// The site, to be asked.
+    pub fn core(&self) -> &SiteCore
+        ensures { result.now ≡ self.now }
+    {
+        &self.core
+    }
+
     /// How many states are known, the root among them, in constant time.
     pub fn known(&self) -> u64
         ensures { (site : Site) → SiteStands self.now site → result ≡ length site.dag }

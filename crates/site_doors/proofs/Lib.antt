@@ -1,0 +1,3 @@
+-- What follows for a site behind its doors.
+pub mod Seen
+pub mod Told

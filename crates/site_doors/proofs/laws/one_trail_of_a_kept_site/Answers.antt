@@ -1,0 +1,6 @@
+use Rattle.site_doors.specs.Rules.{site_doors}
+use Rattle.site_doors.proofs.Seen.{seen_kept}
+use Rattle.site_doors.proofs.laws.one_trail_of_a_kept_site.Goals as goal
+
+pub returns : goal.returns
+returns g c = c.one_trail_behind_doors_as_seen.ensures site_doors (λ kept. kept.state) seen_kept

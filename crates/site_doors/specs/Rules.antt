@@ -1,0 +1,84 @@
+-- What a site lets in through each of its doors, and what it answers there itself.
+use Rattle.std.specs.Prelude.{ℕ, Bool, true, false, ◌==◌, nat_lt, nat_le, List, [], ◌∷◌, if◌then◌else◌}
+use Rattle.std.specs.List.{list_any}
+use Rattle.std.specs.Option.{option_map_or}
+use Rattle.tardis_base.specs.declared.replies.Refusal.TheVariants.{Unsupported}
+use Rattle.tardis_base.specs.declared.replies.Reply.TheVariants.{Refused}
+use Rattle.wire_talk.specs.declared.request_codes.TheConstants.{OPEN, BEGIN, GET, PUT, DELETE, COMMIT, ABORT, BEGIN_MERGE, FORK_POINTS, CONFLICTS, GET_FOR}
+use Rattle.wire_talk.specs.declared.request_codes.TheConstants.{CEILING, STAT, SHOW, LEAVES, PULL, CLOSE}
+use Rattle.wire_talk.specs.Spellings.{reply_spelling}
+use Rattle.plain_site.specs.Site.{Site}
+use Rattle.plain_questions.specs.declared.question_codes.TheConstants.{AT, KEYS, SCAN, RECORD, BASE, SITE}
+use Rattle.plain_questions.specs.Readings.{question_of, answer_over_bytes}
+use Rattle.site_questions.specs.Sure.{is_sure_question}
+use Rattle.hub.specs.Doors.{DoorRules}
+use Rattle.site_doors.specs.declared.passages.TheConstants.{FOR_ALL, FOR_CLIENTS, FOR_PEERS}
+
+-- ===== What each door is for
+
+-- of clients: sessions, transactions, merges, reads, and what the site shows
+abbrev pub client_requests : List ℕ
+client_requests =
+    OPEN ∷ CLOSE ∷ CEILING ∷ BEGIN ∷ GET ∷ PUT ∷ DELETE ∷ COMMIT ∷ ABORT ∷
+    BEGIN_MERGE ∷ FORK_POINTS ∷ CONFLICTS ∷ GET_FOR ∷ STAT ∷ SHOW ∷ LEAVES ∷ []
+
+abbrev pub client_questions : List ℕ
+client_questions = AT ∷ KEYS ∷ SCAN ∷ RECORD ∷ BASE ∷ SITE ∷ []
+
+-- of other sites: how much is known, and news
+abbrev pub peer_requests : List ℕ
+peer_requests = STAT ∷ PULL ∷ []
+
+abbrev pub peer_questions : List ℕ
+peer_questions = RECORD ∷ SITE ∷ []
+
+abbrev pub is_one_of : List ℕ → ℕ → Bool
+is_one_of codes code = list_any (λ c. c == code) codes
+
+-- A request with this code comes in through the door: through the one for all each that is no question, through those for
+-- clients and for peers what is listed, and through any other nothing.
+abbrev pub is_request_at : ℕ → ℕ → Bool
+is_request_at door code =
+    if door == FOR_ALL then nat_lt code AT else
+    if door == FOR_CLIENTS then is_one_of client_requests code else
+    if door == FOR_PEERS then is_one_of peer_requests code else false
+
+-- a question with this code is answered at the door
+abbrev pub is_question_at : ℕ → ℕ → Bool
+is_question_at door code =
+    if door == FOR_ALL then nat_le AT code else
+    if door == FOR_CLIENTS then is_one_of client_questions code else
+    if door == FOR_PEERS then is_one_of peer_questions code else false
+
+-- ===== Bodies
+
+-- the first byte
+abbrev pub code_of : List ℕ → ℕ
+code_of [] = 0
+code_of (code ∷ fields) = code
+
+-- an empty body comes in everywhere
+abbrev pub is_let_in : ℕ → List ℕ → Bool
+is_let_in door [] = true
+is_let_in door (code ∷ fields) = is_request_at door code
+
+-- a question is told what the site tells, and everything else is refused as unsupported
+abbrev pub told_at : ℕ → Site → List ℕ → List ℕ
+told_at door site bytes =
+    if is_question_at door (code_of bytes) then answer_over_bytes site bytes else reply_spelling (Refused (Unsupported (code_of bytes)))
+
+-- memory fails no refusal, be it of what is no question, and no question that takes none
+abbrev pub is_sure_body : List ℕ → Bool
+is_sure_body bytes = option_map_or is_sure_question (question_of bytes) true
+
+abbrev pub is_sure_at : ℕ → List ℕ → Bool
+is_sure_at door bytes = if is_question_at door (code_of bytes) then is_sure_body bytes else true
+
+-- ===== The rules
+
+abbrev pub site_doors : DoorRules Site
+site_doors = record {
+  lets_in = is_let_in;
+  answer = λ door site event. told_at door site event.1;
+  is_sure = λ door event. is_sure_at door event.1;
+}
