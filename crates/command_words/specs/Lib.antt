@@ -8,6 +8,7 @@ pub mod Splits
 pub mod Servings
 pub mod Places
 pub mod Laws
+pub mod Doors
 pub mod Daemons
 pub mod Readings
 pub mod Helps

@@ -6,6 +6,7 @@
 mod behind;
 mod commands;
 mod daemons;
+mod doors;
 mod forms;
 mod helps;
 mod ids;
@@ -20,6 +21,7 @@ mod settings;
 pub use behind::words_behind_name;
 pub use commands::{Command, Place, ServePlan, WordsFault};
 pub use daemons::{DaemonPlan, read_daemon};
-pub use helps::{Help, help_of};
+pub use doors::{DoorKind, DoorPlan, MOST_DOORS};
+pub use helps::{Help, daemon_help_of, help_of};
 pub use laws::commands_are_at_a_site;
 pub use reading::read_words;

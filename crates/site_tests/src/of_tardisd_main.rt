@@ -1,7 +1,7 @@
 use crate::disks::store_of;
 use crate::sites::keys;
 use crate::talks::bytes_of;
-use command_words::Place;
+use command_words::{DoorKind, DoorPlan, Place};
 use hub::{End, MemoryPorts, Move, Seen};
 use std::alloc::Global;
 use std::hash::RandomState;
@@ -16,6 +16,9 @@ use tardisd_main::{
 /// The place of the site.
 const PLACE: Place = Place { sites: 3, site: 2 };
 
+/// Words of a server with two doors.
+const LINE: &str = "--site 2 --tidy --listen unix:s --peers unix:p --sites 3";
+
 /// The words of a line.
 pub(crate) fn words_of(rt: &impl Abort, alloc: Global, line: &str) -> Vec<String> {
     let mut words = Vec::new(alloc);
@@ -26,17 +29,30 @@ pub(crate) fn words_of(rt: &impl Abort, alloc: Global, line: &str) -> Vec<String
     words
 }
 
-/// Whether the words are a plan to collect states at the place, and to listen at `unix:s`.
-fn are_planned(words: &[String]) -> bool {
-    match plan_of(words) {
-        Ok(plan) => plan.listen == "unix:s" && plan.place == PLACE && plan.tidy,
+/// Whether the doors are one for all at `unix:s` and then one for other sites at `unix:p`.
+fn are_these(doors: &[DoorPlan<'_>]) -> bool {
+    match doors {
+        [first, second] => is_door(first, DoorKind::All, "unix:s") && is_door(second, DoorKind::Peers, "unix:p"),
+        _ => false,
+    }
+}
+
+/// Whether a door is of this kind, and at this address.
+fn is_door(door: &DoorPlan<'_>, kind: DoorKind, address: &str) -> bool {
+    door.kind == kind && door.address == address
+}
+
+/// Whether the words are a plan to collect states at the place, and to listen at the doors.
+fn are_planned(alloc: Global, words: &[String]) -> bool {
+    match plan_of(alloc, words) {
+        Ok(plan) => are_these(plan.doors.as_slice()) && plan.place == PLACE && plan.tidy,
         Err(_) => false,
     }
 }
 
 /// Whether the words have none of the forms.
-fn are_refused(words: &[String]) -> bool {
-    match plan_of(words) {
+fn are_refused(alloc: Global, words: &[String]) -> bool {
+    match plan_of(alloc, words) {
         Ok(_) => false,
         Err(refused) => refused == DaemonEnd::Usage,
     }
@@ -44,13 +60,13 @@ fn are_refused(words: &[String]) -> bool {
 
 #[test]
 fn words_are_a_plan_or_refused(rt: HostRuntime) {
-    let words = words_of(&rt, rt.alloc(), "--site 2 --tidy --listen unix:s --sites 3");
-    assert!(rt; are_planned(words.as_slice()));
+    let words = words_of(&rt, rt.alloc(), LINE);
+    assert!(rt; are_planned(rt.alloc(), words.as_slice()));
     let words = words_of(&rt, rt.alloc(), "--sites 2");
-    assert!(rt; are_refused(words.as_slice()));
+    assert!(rt; are_refused(rt.alloc(), words.as_slice()));
 }
 
-/// Doors behind which nobody is, which know whether they were opened at `unix:s` for the place.
+/// Doors behind which nobody is, which know whether they were opened, and announced for the place.
 #[derive(Drop)]
 struct NotingDoors {
     alloc: Global,
@@ -61,15 +77,15 @@ struct NotingDoors {
 impl Doors for NotingDoors {
     type Ports = MemoryPorts;
 
-    ghost opens = { λ address opened. Unit {0} };
+    ghost opens = { λ doors opened. Unit {0} };
 
-    fn open(&mut self, address: &str) -> Result<MemoryPorts, GateFault> {
-        self.is_opened = address == "unix:s";
+    fn open(&mut self, doors: &[DoorPlan<'_>]) -> Result<MemoryPorts, GateFault> {
+        self.is_opened = are_these(doors);
         Ok(MemoryPorts::new(self.alloc, Vec::new(self.alloc)))
     }
 
-    fn announce(&mut self, place: Place, address: &str, found: Option<FoundSite>) {
-        let is_here = place == PLACE && address == "unix:s";
+    fn announce(&mut self, place: Place, doors: &[DoorPlan<'_>], found: Option<FoundSite>) {
+        let is_here = place == PLACE && are_these(doors);
         self.is_announced = self.is_opened && is_here && found.is_none();
     }
 }
@@ -130,9 +146,8 @@ fn words_are_carried_out(rt: HostRuntime) {
         )
     );
     assert!(rt; !doors.is_opened);
-    let line = "--site 2 --tidy --listen unix:s --sites 3";
     let lost = DaemonEnd::Gate(GateFault::Lost);
-    assert!(rt; end_as(&rt, rt.alloc(), line, &mut doors, lost, b""));
+    assert!(rt; end_as(&rt, rt.alloc(), LINE, &mut doors, lost, b""));
     assert!(rt; doors.is_announced);
     drop(doors);
 }

@@ -1,18 +1,17 @@
 //! Where connections come: a path of a Unix socket, or an address of TCP.
 
-ghost use Rattle.std.specs.Prelude.{◌≡◌, length};
-ghost use Rattle.std.specs.Io.{ReadsAtMost, WritesAtMost};
-
-use mio::event::Source;
-use mio::net::{TcpListener, TcpStream, UnixListener, UnixStream};
+use crate::streams::Stream;
+use crate::unix_doors::open_unix;
+use mio::net::{TcpListener, UnixListener};
 use mio::{Interest, Registry, Token};
-use std::fs::{self, Files};
-use std::io::{self, Read, Write};
+use std::alloc::Global;
+use std::fs::Files;
+use std::io;
 use std::net::{Net, SocketAddr, ToSocketAddrs};
-use std::os::unix::fs::FileTypeExt;
+use std::random::RandomSource;
 
 /// No connection can come at an address.
-#[derive(Clone, Copy)]
+#[derive(Clone, Copy, PartialEq, Eq)]
 pub enum DoorFault {
     /// The address has none of the forms, or its host isn't known.
     NoAddress,
@@ -20,37 +19,75 @@ pub enum DoorFault {
     InUse,
     /// Something else than a socket stands at the path.
     Occupied,
-    /// The system refused.
-    Refused,
+    /// The folder of the path isn't there.
+    NoFolder,
+    /// The path has more than 107 bytes, or its folder's more than 97.
+    LongPath,
+    /// This user may not listen there.
+    Forbidden,
+    /// The host isn't one of this machine's addresses.
+    NotHere,
+    /// The system refused for another reason.
+    Refused(io::ErrorKind),
+}
+
+impl DoorFault {
+    /// What an error of the system says of a door.
+    pub(crate) fn of(error: &io::Error) -> DoorFault {
+        match error.kind() {
+            io::ErrorKind::AddrInUse => DoorFault::InUse,
+            io::ErrorKind::NotFound | io::ErrorKind::NotADirectory => DoorFault::NoFolder,
+            io::ErrorKind::PermissionDenied => DoorFault::Forbidden,
+            io::ErrorKind::AddrNotAvailable => DoorFault::NotHere,
+            kind => DoorFault::Refused(kind),
+        }
+    }
 }
 
 /// Where connections come.
 #[derive(Drop)]
-pub enum Door {
+pub(crate) enum Listener {
     Unix(UnixListener),
     Tcp(TcpListener),
 }
 
-/// A connection.
+/// A door: where connections come, and the number by which a hub is told through which door one came.
 #[derive(Drop)]
-pub(crate) enum Stream {
-    Unix(UnixStream),
-    Tcp(TcpStream),
+pub struct Door {
+    listener: Listener,
+    number: u8,
+    /// A connection may wait.
+    knocked: bool,
 }
 
 /// What an address of a Unix socket begins with.
 const UNIX: &str = "unix:";
 
-/// Opens the door at an address: `unix:` and a path, or `HOST:PORT`. A path that a dead server left is taken over, and a
-/// living one's isn't.
-pub fn open_door<R: Files + Net>(rt: &R, address: &str) -> Result<Door, DoorFault> {
-    match address.strip_prefix(UNIX) {
-        Some(path) => open_unix(rt, path),
-        None => open_tcp(rt, address),
-    }
+/// Opens the door of this number at an address: `unix:` and a path, or `HOST:PORT`. A path that a dead server left is taken
+/// over, and a living one's isn't. A Unix socket is its owner's alone (mode 0600) from the moment at which it stands at the path.
+pub fn open_door<R: Files + Net + RandomSource>(
+    rt: &R,
+    alloc: Global,
+    address: &str,
+    number: u8,
+) -> Result<Door, DoorFault> {
+    let listener = match path_of(address) {
+        Some(path) => Listener::Unix(open_unix(rt, alloc, path)?),
+        None => Listener::Tcp(open_tcp(rt, address)?),
+    };
+    Ok(Door {
+        listener,
+        number,
+        knocked: true,
+    })
 }
 
-fn open_tcp<R: Net>(rt: &R, address: &str) -> Result<Door, DoorFault> {
+/// The path of an address of a Unix socket.
+pub fn path_of(address: &str) -> Option<&str> {
+    address.strip_prefix(UNIX)
+}
+
+fn open_tcp<R: Net>(rt: &R, address: &str) -> Result<TcpListener, DoorFault> {
     let Ok(mut found) = address.to_socket_addrs(rt) else {
         return Err(DoorFault::NoAddress);
     };
@@ -58,66 +95,59 @@ fn open_tcp<R: Net>(rt: &R, address: &str) -> Result<Door, DoorFault> {
         return Err(DoorFault::NoAddress);
     };
     match TcpListener::bind(rt, first) {
-        Ok(listener) => Ok(Door::Tcp(listener)),
-        Err(error) if error.kind() == io::ErrorKind::AddrInUse => Err(DoorFault::InUse),
-        Err(_) => Err(DoorFault::Refused),
-    }
-}
-
-fn open_unix<R: Files + Net>(rt: &R, path: &str) -> Result<Door, DoorFault> {
-    match UnixListener::bind(rt, path) {
-        Ok(listener) => Ok(Door::Unix(listener)),
-        Err(error) if error.kind() == io::ErrorKind::AddrInUse => take_over(rt, path),
-        Err(_) => Err(DoorFault::Refused),
-    }
-}
-
-/// Takes over a path that nobody listens at. What stands there and is no socket stays.
-fn take_over<R: Files + Net>(rt: &R, path: &str) -> Result<Door, DoorFault> {
-    match UnixStream::connect(rt, path) {
-        Ok(_) => return Err(DoorFault::InUse),
-        Err(error) if error.kind() == io::ErrorKind::ConnectionRefused => {}
-        Err(error) if error.kind() == io::ErrorKind::PermissionDenied => {
-            return Err(DoorFault::Refused);
-        }
-        Err(_) => return Err(DoorFault::InUse),
-    }
-    if !is_socket_at(rt, path) {
-        return Err(DoorFault::Occupied);
-    }
-    let Ok(()) = fs::remove_file(rt, path) else {
-        return Err(DoorFault::Refused);
-    };
-    match UnixListener::bind(rt, path) {
-        Ok(listener) => Ok(Door::Unix(listener)),
-        Err(_) => Err(DoorFault::Refused),
-    }
-}
-
-/// Whether a socket stands at the path itself.
-fn is_socket_at<R: Files>(rt: &R, path: &str) -> bool {
-    match fs::symlink_metadata(rt, path) {
-        Ok(found) => found.file_type().is_socket(),
-        Err(_) => false,
+        Ok(listener) => Ok(listener),
+        Err(error) => Err(DoorFault::of(&error)),
     }
 }
 
 impl Door {
-    pub(crate) fn register(&mut self, registry: &Registry, token: Token) -> io::Result<()> {
-        match self {
-            Door::Unix(listener) => registry.register(listener, token, Interest::READABLE),
-            Door::Tcp(listener) => registry.register(listener, token, Interest::READABLE),
+    /// Where it listens over TCP, with the port that was taken.
+    pub fn socket_addr(&self) -> Option<SocketAddr> {
+        match &self.listener {
+            Listener::Unix(_) => None,
+            Listener::Tcp(listener) => listener.local_addr().ok(),
         }
     }
 
-    /// The next connection, or `WouldBlock` where none waits.
-    pub(crate) fn accept(&self) -> io::Result<Stream> {
-        match self {
-            Door::Unix(listener) => {
+    pub(crate) fn register(&mut self, registry: &Registry, token: Token) -> io::Result<()> {
+        match &mut self.listener {
+            Listener::Unix(listener) => registry.register(listener, token, Interest::READABLE),
+            Listener::Tcp(listener) => registry.register(listener, token, Interest::READABLE),
+        }
+    }
+
+    /// Notes that a connection may wait.
+    pub(crate) fn knock(&mut self) {
+        self.knocked = true;
+    }
+
+    /// Whether a connection may wait.
+    pub(crate) fn is_knocked(&self) -> bool {
+        self.knocked
+    }
+
+    /// The next connection, if one waits, and the number of the door.
+    pub(crate) fn next(&mut self) -> Option<(Stream, u8)> {
+        if !self.knocked {
+            return None;
+        }
+        match self.accept() {
+            Ok(stream) => Some((stream, self.number)),
+            Err(error) => {
+                // the one that was next is gone, and others may wait behind it
+                self.knocked = is_passing(&error);
+                None
+            }
+        }
+    }
+
+    fn accept(&self) -> io::Result<Stream> {
+        match &self.listener {
+            Listener::Unix(listener) => {
                 let (stream, _) = listener.accept()?;
                 Ok(Stream::Unix(stream))
             }
-            Door::Tcp(listener) => {
+            Listener::Tcp(listener) => {
                 let (stream, _) = listener.accept()?;
                 let _ = stream.set_nodelay(true);
                 Ok(Stream::Tcp(stream))
@@ -126,47 +156,10 @@ impl Door {
     }
 }
 
-impl Stream {
-    pub(crate) fn register(
-        &mut self,
-        registry: &Registry,
-        token: Token,
-        interest: Interest,
-    ) -> io::Result<()> {
-        match self {
-            Stream::Unix(stream) => registry.register(stream, token, interest),
-            Stream::Tcp(stream) => registry.register(stream, token, interest),
-        }
-    }
-
-    pub(crate) fn reregister(
-        &mut self,
-        registry: &Registry,
-        token: Token,
-        interest: Interest,
-    ) -> io::Result<()> {
-        match self {
-            Stream::Unix(stream) => registry.reregister(stream, token, interest),
-            Stream::Tcp(stream) => registry.reregister(stream, token, interest),
-        }
-    }
-
-    pub(crate) fn read(&mut self, buf: &mut [u8]) -> io::Result<usize>
-        ensures bound { ReadsAtMost result buf.new }
-        ensures room { length buf.new ≡ length buf.old }
-    {
-        match self {
-            Stream::Unix(stream) => stream.read(buf),
-            Stream::Tcp(stream) => stream.read(buf),
-        }
-    }
-
-    pub(crate) fn write(&mut self, bytes: &[u8]) -> io::Result<usize>
-        ensures bound { WritesAtMost result bytes.now }
-    {
-        match self {
-            Stream::Unix(stream) => stream.write(bytes),
-            Stream::Tcp(stream) => stream.write(bytes),
-        }
-    }
+/// Whether a call may be made again: a signal came, or the connection that it was about is gone.
+pub(crate) fn is_passing(error: &io::Error) -> bool {
+    matches!(
+        error.kind(),
+        io::ErrorKind::Interrupted | io::ErrorKind::ConnectionAborted
+    )
 }

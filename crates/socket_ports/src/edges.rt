@@ -2,8 +2,9 @@
 
 ghost use Rattle.std.specs.Prelude.{◌≡◌, ◌≤◌, ◌∷◌, [], None, length, take};
 
-use crate::doors::Door;
+use crate::doors::{Door, is_passing};
 use crate::plugs::{Plug, Work};
+use crate::streams::Stream;
 use hub::{Connection, Ports, Ready, SLOTS};
 use mio::{Events, Poll, Token};
 use std::alloc::Global;
@@ -11,19 +12,20 @@ use std::io;
 use std::net::Net;
 use std::time::Duration;
 
-/// The name of the door among the events of the system. The connections have their slots' numbers.
-const DOOR: usize = SLOTS;
+/// The name of the first door among the events of the system; those of the others follow. The connections have their slots'
+/// numbers.
+const FIRST_DOOR: usize = SLOTS;
 
-/// The number of the door, as the hub is told it.
-const ONLY_DOOR: u8 = 0;
+/// So many events are taken at once: one for each connection, and one for each of some doors. What is left comes the next time.
+const MOST_EVENTS: usize = SLOTS + 8;
 
-/// So many events are taken at once: one for each connection, and one for the door.
-const MOST_EVENTS: usize = SLOTS + 1;
+/// So many connections that find no room are told so at once. What is left comes in the next round.
+const MOST_TURNED_AWAY: usize = 64;
 
 /// What is offered now.
 #[derive(Clone, Copy, PartialEq, Eq)]
 enum Step {
-    /// The door.
+    /// The doors.
     Admit,
     /// What may be read.
     Read,
@@ -31,19 +33,21 @@ enum Step {
     Write,
 }
 
-/// The connections that came through a door, offered in rounds. A round begins with what the system tells by then. A
-/// connection that waits at the door is offered first; then one read of each connection that may give bytes; and then one write
+/// The connections that came through doors, offered in rounds. A round begins with what the system tells by then. A
+/// connection that waits at a door is offered first, of the doors one after another; then one read of each connection that may give bytes; and then one write
 /// to each for which bytes wait. So what is answered in a round can be settled at once for all, and no connection keeps the
 /// others waiting for longer than a round. When a peer has sent all, its connection ends once its replies are written.
+///
+/// A connection for which there is no slot is told so by one frame, and ended; it isn't offered, so nobody else sees it.
 ///
 /// It tells nothing of what it saw, and ends only where the system can't be waited for.
 #[derive(Drop)]
 pub struct SocketPorts {
     poll: Poll,
     events: Events,
-    door: Door,
-    /// A connection may wait at the door.
-    knocked: bool,
+    doors: Vec<Door>,
+    /// The door whose turn is next.
+    turn: usize,
     plugs: Vec<Option<Plug>>,
     /// How many connections there are, and no slot from `high` on has one.
     open: usize,
@@ -54,12 +58,16 @@ pub struct SocketPorts {
 }
 
 impl SocketPorts {
-    /// The connections that will come through this door.
-    pub fn new(net: &impl Net, alloc: Global, door: Door) -> io::Result<SocketPorts> {
+    /// The connections that will come through these doors.
+    pub fn new(net: &impl Net, alloc: Global, doors: Vec<Door>) -> io::Result<SocketPorts> {
         let poll = Poll::new(net)?;
         let events = Events::with_capacity(alloc, MOST_EVENTS)?;
-        let mut door = door;
-        door.register(poll.registry(), Token(DOOR))?;
+        let mut doors = doors;
+        let mut token = FIRST_DOOR;
+        for door in doors.iter_mut() {
+            door.register(poll.registry(), Token(token))?;
+            token = token.saturating_add(1);
+        }
         let mut plugs = Vec::with_capacity(alloc, SLOTS)?;
         for _ in 0..SLOTS {
             plugs.push(None)?;
@@ -67,8 +75,8 @@ impl SocketPorts {
         Ok(SocketPorts {
             poll,
             events,
-            door,
-            knocked: true,
+            doors,
+            turn: 0,
             plugs,
             open: 0,
             high: 0,
@@ -81,8 +89,7 @@ impl SocketPorts {
     fn offer(&mut self, connections: &[Option<Connection>]) -> Option<Ready> {
         if self.step == Step::Admit {
             self.go_to(Step::Read);
-            if self.may_admit() {
-                self.knocked = false;
+            if self.is_knocked() && !self.is_full() {
                 return Some(Ready::Accept);
             }
         }
@@ -100,9 +107,60 @@ impl SocketPorts {
         self.next = 0;
     }
 
-    /// Whether a connection may wait at the door, and there is a slot for it.
-    fn may_admit(&self) -> bool {
-        self.knocked && self.open < SLOTS
+    /// Whether there is no slot for a further connection.
+    fn is_full(&self) -> bool {
+        self.open >= SLOTS
+    }
+
+    /// Whether a connection may wait at a door.
+    fn is_knocked(&self) -> bool {
+        self.doors.iter().any(|door| door.is_knocked())
+    }
+
+    /// Whether no slot is about to be free.
+    fn is_none_ending(&self) -> bool {
+        !self
+            .plugs
+            .iter()
+            .any(|plug| matches!(plug, Some(plug) if plug.is_ending()))
+    }
+
+    /// Whether something is to be done at the doors.
+    fn is_asked(&self) -> bool {
+        self.is_knocked() && (!self.is_full() || self.is_none_ending())
+    }
+
+    /// Tells connections that wait that there is no room for them.
+    fn turn_away(&mut self) {
+        for _ in 0..MOST_TURNED_AWAY {
+            match self.next_stream() {
+                Some((stream, _)) => stream.turn_away(),
+                None => return,
+            }
+        }
+    }
+
+    /// The next connection that waits, and the number of its door. The doors are asked in turn.
+    fn next_stream(&mut self) -> Option<(Stream, u8)> {
+        let count = self.doors.len();
+        for _ in 0..count {
+            let at = self.turn;
+            let next = at.saturating_add(1);
+            self.turn = if next < count { next } else { 0 };
+            if let Some(door) = self.doors.get_mut(at) {
+                if let Some(came) = door.next() {
+                    return Some(came);
+                }
+            }
+        }
+        None
+    }
+
+    /// Notes that a connection may wait at each door.
+    fn knock_all(&mut self) {
+        for door in self.doors.iter_mut() {
+            door.knock();
+        }
     }
 
     /// The next connection that may give bytes.
@@ -154,11 +212,14 @@ impl SocketPorts {
                 return true;
             }
         }
-        self.may_admit()
+        self.is_asked()
     }
 
-    /// Begins a round: notes what the system tells. Where nothing is left to do it is waited for.
+    /// Begins a round: notes what the system tells, once those are turned away who found no slot in the last one. Where nothing is left to do it is waited for.
     fn begin_round(&mut self, connections: &[Option<Connection>]) -> io::Result<()> {
+        if self.is_full() && self.is_asked() {
+            self.turn_away();
+        }
         let timeout = if self.is_left(connections) {
             Some(Duration::ZERO)
         } else {
@@ -168,8 +229,10 @@ impl SocketPorts {
         self.poll.poll(&mut self.events, timeout)?;
         for event in self.events.iter() {
             let Token(slot) = event.token();
-            if slot == DOOR {
-                self.knocked = true;
+            if slot >= FIRST_DOOR {
+                if let Some(door) = self.doors.get_mut(slot - FIRST_DOOR) {
+                    door.knock();
+                }
             } else if let Some(Some(plug)) = self.plugs.get_mut(slot) {
                 plug.note(event, self.poll.registry());
             }
@@ -179,15 +242,7 @@ impl SocketPorts {
 
     /// Brings a connection into the slot, if one waits, and answers the number of its door.
     fn admit(&mut self, slot: usize) -> Option<u8> {
-        let stream = match self.door.accept() {
-            Ok(stream) => stream,
-            Err(error) => {
-                // the one that was next is gone, and others may wait behind it
-                self.knocked = is_passing(&error);
-                return None;
-            }
-        };
-        self.knocked = true;
+        let (stream, number) = self.next_stream()?;
         let Ok(plug) = Plug::new(stream, self.poll.registry(), Token(slot)) else {
             return None;
         };
@@ -197,16 +252,8 @@ impl SocketPorts {
         }
         self.open = self.open.saturating_add(1);
         self.high = self.high.max(slot.saturating_add(1));
-        Some(ONLY_DOOR)
+        Some(number)
     }
-}
-
-/// Whether the call may be made again: a signal came, or the connection that it was about is gone.
-fn is_passing(error: &io::Error) -> bool {
-    matches!(
-        error.kind(),
-        io::ErrorKind::Interrupted | io::ErrorKind::ConnectionAborted
-    )
 }
 
 impl Ports for SocketPorts {
@@ -231,9 +278,7 @@ impl Ports for SocketPorts {
     }
 
     fn decline(&mut self) {
-        if self.door.accept().is_ok() {
-            self.knocked = true;
-        }
+        let _ = self.next_stream();
     }
 
     fn read(&mut self, slot: usize, buf: &mut [u8]) -> usize {
@@ -258,6 +303,6 @@ impl Ports for SocketPorts {
         if self.open == 0 {
             self.high = 0;
         }
-        self.knocked = true;
+        self.knock_all();
     }
 }

@@ -7,6 +7,8 @@
 mod doors;
 mod edges;
 mod plugs;
+mod streams;
+mod unix_doors;
 
-pub use doors::{Door, DoorFault, open_door};
+pub use doors::{Door, DoorFault, open_door, path_of};
 pub use edges::SocketPorts;

@@ -2,7 +2,7 @@
 
 ghost use Rattle.std.specs.Prelude.{◌≡◌, ◌≤◌, [], Some, true, false, length};
 
-use crate::doors::Stream;
+use crate::streams::Stream;
 use hub::Connection;
 use mio::event::Event;
 use mio::{Interest, Registry, Token};
@@ -65,6 +65,11 @@ impl Plug {
                 self.ask(registry, Interest::READABLE);
             }
         }
+    }
+
+    /// Whether it is about to end: the peer sends no more, or no more can be read or written.
+    pub(crate) fn is_ending(&self) -> bool {
+        self.closing || self.ended || self.gone
     }
 
     /// Whether it may give bytes, and the hub wants them.

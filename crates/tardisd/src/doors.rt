@@ -1,24 +1,89 @@
-//! The real door, which says where it listens.
+//! The real doors, which say where they listen.
 
-use command_words::Place;
-use socket_ports::{DoorFault, SocketPorts, open_door};
-use std::fmt;
+use crate::words::{Faulty, Listening, Reading};
+use command_words::{DoorPlan, Place};
+use socket_ports::{Door, DoorFault, SocketPorts, open_door, path_of};
+use std::fs;
+use std::net::SocketAddr;
 use std::time::Instant;
-use tardisd_main::{Doors, FoundSite, GateFault};
+use tardisd_main::{Doors, FoundSite, GateFault, number_of};
 
 /// Doors over sockets of the system. That the site is served is told by a line on standard error, so that whoever started
-/// the program knows that clients may come.
+/// the program knows that clients may come; and so is a door that can't be opened.
 #[derive(Drop)]
 pub(crate) struct SocketDoors<'a> {
     rt: &'a HostRuntime,
     /// When the program started, where the system has a clock.
     start: Option<Instant>,
+    /// Where the doors listen over TCP, in the order of the doors, with the ports that were taken.
+    bound: Vec<Option<SocketAddr>>,
+    /// A door that can't be opened was told.
+    is_told: bool,
 }
 
 impl<'a> SocketDoors<'a> {
     pub(crate) fn new(rt: &'a HostRuntime) -> SocketDoors<'a> {
         let start = Instant::now(rt).ok();
-        SocketDoors { rt, start }
+        SocketDoors {
+            rt,
+            start,
+            bound: Vec::new(rt.alloc()),
+            is_told: false,
+        }
+    }
+
+    /// Whether the fault at the doors was told.
+    pub(crate) fn is_told(&self) -> bool {
+        self.is_told
+    }
+
+    /// Opens the doors, each or none.
+    fn open_all(&mut self, doors: &[DoorPlan<'_>]) -> Result<SocketPorts, GateFault> {
+        let mut opened = Vec::new(self.rt.alloc());
+        for plan in doors.iter() {
+            match self.open_one(&mut opened, plan) {
+                Ok(()) => {}
+                Err(fault) => {
+                    self.give_up(&doors[..opened.len()]);
+                    return Err(fault);
+                }
+            }
+        }
+        match SocketPorts::new(self.rt, self.rt.alloc(), opened) {
+            Ok(ports) => Ok(ports),
+            Err(_) => {
+                self.give_up(doors);
+                Err(GateFault::Refused)
+            }
+        }
+    }
+
+    /// Opens a door behind the others.
+    fn open_one(&mut self, opened: &mut Vec<Door>, plan: &DoorPlan<'_>) -> Result<(), GateFault> {
+        let address = plan.address;
+        match open_door(self.rt, self.rt.alloc(), address, number_of(plan.kind)) {
+            Ok(door) => {
+                let bound = door.socket_addr();
+                if self.bound.push(bound).is_err() || opened.push(door).is_err() {
+                    return Err(GateFault::Refused);
+                }
+                Ok(())
+            }
+            Err(fault) => {
+                let _ = self.rt.eprintln(Faulty { address, fault });
+                self.is_told = true;
+                Err(fault_of(fault))
+            }
+        }
+    }
+
+    /// Takes away the sockets of doors that were opened.
+    fn give_up(&self, doors: &[DoorPlan<'_>]) {
+        for plan in doors.iter() {
+            if let Some(path) = path_of(plan.address) {
+                let _ = fs::remove_file(self.rt, path);
+            }
+        }
     }
 
     /// What was found, and in how long.
@@ -38,66 +103,30 @@ impl Doors for SocketDoors<'_> {
     type Ports = SocketPorts;
 
     // what a system does isn't stated
-    ghost opens = { λ address opened. Unit {0} };
+    ghost opens = { λ doors opened. Unit {0} };
 
-    fn open(&mut self, address: &str) -> Result<SocketPorts, GateFault> {
-        match open_door(self.rt, address) {
-            Ok(door) => match SocketPorts::new(self.rt, self.rt.alloc(), door) {
-                Ok(ports) => Ok(ports),
-                Err(_) => Err(GateFault::Refused),
-            },
-            Err(fault) => Err(fault_of(fault)),
-        }
+    fn open(&mut self, doors: &[DoorPlan<'_>]) -> Result<SocketPorts, GateFault> {
+        self.open_all(doors)
     }
 
-    fn announce(&mut self, place: Place, address: &str, found: Option<FoundSite>) {
+    fn announce(&mut self, place: Place, doors: &[DoorPlan<'_>], found: Option<FoundSite>) {
         let Place { sites, site } = place;
+        let listening = Listening {
+            doors,
+            bound: self.bound.as_slice(),
+        };
         // where standard error is closed, nobody waits for the line
         let _ = match found {
             None => self.rt.eprintln(format_args!(
-                "tardisd: site {site} of {sites} listens at {address}"
+                "tardisd: site {site} of {sites} listens {listening}"
             )),
             Some(found) => {
                 let reading = self.reading(found);
                 self.rt.eprintln(format_args!(
-                    "tardisd: site {site} of {sites} listens at {address}, {reading}"
+                    "tardisd: site {site} of {sites} listens {listening}, {reading}"
                 ))
             }
         };
-    }
-}
-
-/// What was found in a file, and in how many milliseconds.
-#[derive(Clone, Copy)]
-struct Reading {
-    found: FoundSite,
-    millis: Option<u128>,
-}
-
-impl fmt::Display for Reading {
-    fn fmt<W: fmt::Write>(&self, f: &mut fmt::Formatter<W>) -> fmt::Result {
-        let FoundSite {
-            known,
-            kept,
-            groups,
-            bytes,
-            is_torn,
-            is_new,
-        } = self.found;
-        if is_new {
-            return write!(f, "in a new file");
-        }
-        write!(
-            f,
-            "with {known} states, {kept} of them kept, from a file of {groups} groups in {bytes} bytes"
-        )?;
-        if let Some(millis) = self.millis {
-            write!(f, ", read in {millis} ms")?;
-        }
-        if is_torn {
-            write!(f, "; its end was torn, and is mended")?;
-        }
-        Ok(())
     }
 }
 
@@ -107,6 +136,10 @@ fn fault_of(fault: DoorFault) -> GateFault {
         DoorFault::NoAddress => GateFault::NoAddress,
         DoorFault::InUse => GateFault::InUse,
         DoorFault::Occupied => GateFault::Occupied,
-        DoorFault::Refused => GateFault::Refused,
+        DoorFault::NoFolder
+        | DoorFault::LongPath
+        | DoorFault::Forbidden
+        | DoorFault::NotHere
+        | DoorFault::Refused(_) => GateFault::Refused,
     }
 }

@@ -8,9 +8,12 @@ ghost use Rattle.std.specs.Process.{exit_status};
 ghost use Rattle.tardisd_main.specs.Ends.{end_number};
 
 mod doors;
+mod files;
+mod words;
 
 use disk_forms::FileStore;
 use doors::SocketDoors;
+use files::tell_unopened;
 use std::alloc::Global;
 use std::env::{self, Args};
 use std::hash::RandomState;
@@ -18,12 +21,12 @@ use std::io;
 use std::process::ExitCode;
 use std::random::RandomSource;
 use tardis_io::StdOut;
-use tardisd_main::{DaemonEnd, carry_out};
+use tardisd_main::{DaemonEnd, FileFault, carry_out};
 
 fn main(rt: HostRuntime) -> ExitCode {
     let output = StdOut::new(rt.stdout());
-    let ended = run(&rt, rt.alloc(), asked(&rt), output);
-    end(&rt, ended)
+    let (ended, is_told) = run(&rt, rt.alloc(), asked(&rt), output);
+    end(&rt, ended, is_told)
 }
 
 /// What the system gives a program when it starts.
@@ -60,13 +63,13 @@ fn drawn(rt: &HostRuntime) -> io::Result<(RandomState, [u8; 16])> {
     Ok((keys, life))
 }
 
-/// Does what the arguments ask for, over sockets and files.
+/// Does what the arguments ask for, over sockets and files: how it ended, and whether that was told.
 fn run(
     rt: &HostRuntime,
     alloc: Global,
     given: Result<Given, DaemonEnd>,
     output: StdOut,
-) -> DaemonEnd {
+) -> (DaemonEnd, bool) {
     let mut output = output;
     match given {
         Ok(given) => {
@@ -74,18 +77,28 @@ fn run(
             let Given { args, keys, .. } = given;
             let mut doors = SocketDoors::new(rt);
             let mut store = FileStore::new(rt);
-            carry_out(alloc, keys, life, args, &mut doors, &mut store, &mut output)
+            let ended = carry_out(alloc, keys, life, args, &mut doors, &mut store, &mut output);
+            (ended, doors.is_told())
         }
-        Err(ended) => ended,
+        Err(ended) => (ended, false),
     }
 }
 
-/// Writes the line of an end, if it has one, on standard error, and gives its number.
-fn end(rt: &HostRuntime, ended: DaemonEnd) -> ExitCode
+/// Writes the line of an end, if it has one that wasn't told, on standard error, and gives its number.
+fn end(rt: &HostRuntime, ended: DaemonEnd, is_told: bool) -> ExitCode
     ensures { exit_status result ≡ end_number ended }
 {
-    if ended != DaemonEnd::Told {
+    if !is_told && !is_told_by_system(rt, ended) {
         let _ = rt.eprintln(ended);
     }
     ExitCode::from(ended.number())
+}
+
+/// Whether nothing is left to tell of an end. Of a file that can't be opened it is told what the system says.
+fn is_told_by_system(rt: &HostRuntime, ended: DaemonEnd) -> bool {
+    match ended {
+        DaemonEnd::Told => true,
+        DaemonEnd::File(FileFault::Refused) => tell_unopened(rt),
+        _ => false,
+    }
 }

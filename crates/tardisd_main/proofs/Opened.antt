@@ -2,6 +2,7 @@
 use Rattle.std.proofs.Common.{◌≡◌, true, List, [], ◌∷◌, length, ℕ, Option, Result, subst}
 use Rattle.tardis_io.specs.Faults.{Rose}
 use Rattle.disk_store.specs.declared.disks.Disk.{Ghosts as ADisk}
+use Rattle.command_words.specs.Doors.{DoorAt}
 use Rattle.command_words.specs.declared.commands.Place.{Place}
 use Rattle.command_words.specs.declared.daemons.DaemonPlan.{DaemonPlan}
 use Rattle.command_words.specs.Daemons.{daemon_of}
@@ -38,7 +39,7 @@ module _ {K : Type 0} (k : ADisk K) where
         safe = λ h. subst (λ (f : LogFront). OpeningLeaves k disk back f) is (safe h);
       }
 
-  pub served_from : {P : Type 0} (opens : List ℕ → Result P GateFault → Type 0) (seen : P → Option (List Seen)) (plan : DaemonPlan) (end : DaemonEnd)
+  pub served_from : {P : Type 0} (opens : List DoorAt → Result P GateFault → Type 0) (seen : P → Option (List Seen)) (plan : DaemonPlan) (end : DaemonEnd)
       (life : List ℕ) (site : Core) (disk back : K) (front : LogFront) (it : OpenedLog Core K)
       → front ≡ front_at plan.place life → SiteStands site (opens_at plan.place)
       → (bodies : List (List ℕ)) × IsOpened resting k site disk front it bodies

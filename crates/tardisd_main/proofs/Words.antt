@@ -2,6 +2,7 @@
 use Rattle.std.proofs.Common.{◌≡◌, ◌⊎◌, ⊎_elim, ◌∙◌, ℕ, true, false, List, Option, Some, None, Result, Ok, Err, sym, ap, subst}
 use Rattle.disk_store.specs.declared.disks.Disk.{Ghosts as ADisk}
 use Rattle.disk_store.specs.declared.stores.Store.{Ghosts as AStore}
+use Rattle.command_words.specs.Doors.{DoorAt}
 use Rattle.command_words.specs.declared.daemons.DaemonPlan.{DaemonPlan}
 use Rattle.command_words.specs.Settings.{settings}
 use Rattle.command_words.specs.Daemons.{Daemon, daemon, daemon_of}
@@ -58,11 +59,11 @@ over_edge {P} seen (Ok ports) asked end became =
     ends_so end (end_by p.1) p.4 (served_by p.1)) became
 over_edge {P} seen (Err fault) asked end is = ends_so end (Gate fault) is tt
 
-pub serves_as : {D P : Type 0} (opens : List ℕ → Result P GateFault → Type 0) (seen : P → Option (List Seen)) (old new : D) (asked : Daemon) (end : DaemonEnd)
+pub serves_as : {D P : Type 0} (opens : List DoorAt → Result P GateFault → Type 0) (seen : P → Option (List Seen)) (old new : D) (asked : Daemon) (end : DaemonEnd)
     → ServesAs opens seen old new asked end → Served end
 serves_as {D} {P} opens seen old new asked end served =
     ⊎_elim (λ (p : (end ≡ NoMemory) × (new ≡ old)). ends_so end NoMemory p.0 tt)
-    (λ (p : (opened : Result P GateFault) × opens asked.listen opened × EndsAs seen opened asked end). over_edge seen p.0 asked end p.2) served
+    (λ (p : (opened : Result P GateFault) × opens asked.doors opened × EndsAs seen opened asked end). over_edge seen p.0 asked end p.2) served
 
 kept_over : {P K : Type 0} (seen : P → Option (List Seen)) (k : ADisk K) (asked : Daemon) (end : DaemonEnd) (front : LogFront) (bodies : List (List ℕ)) (site : Site)
     (back : K) (opened : Result P GateFault) → EndsKept seen k asked.tidy end front bodies site back opened → Served end
@@ -72,7 +73,7 @@ kept_over {P} seen k asked end front bodies site back (Ok ports) became =
     ends_so end (end_by p.1) p.3 (served_by p.1)) became
 kept_over {P} seen k asked end front bodies site back (Err fault) became = ends_so end (Gate fault) became.0 tt
 
-module _ {D P S K : Type 0} (opens : List ℕ → Result P GateFault → Type 0) (seen : P → Option (List Seen)) (st : AStore S K) (k : ADisk K)
+module _ {D P S K : Type 0} (opens : List DoorAt → Result P GateFault → Type 0) (seen : P → Option (List Seen)) (st : AStore S K) (k : ADisk K)
     (life : List ℕ) (asked : Daemon) (path : List ℕ) (old new : D) (was now : S) (end : DaemonEnd) where
   with_file : WithFile opens seen st k life asked path old new was now end → Served end
   with_file of =
@@ -100,7 +101,7 @@ same_some : {A : Type 0} (a b : A) → Some a ≡ Some b → a ≡ b
 same_some a b e = ap (in_some a) e
 
 -- what is asked for is what the plan says
-pub keeps_file : {D P S K O : Type 0} (opens : List ℕ → Result P GateFault → Type 0) (seen : P → Option (List Seen)) (st : AStore S K) (k : ADisk K) (life : List ℕ)
+pub keeps_file : {D P S K O : Type 0} (opens : List DoorAt → Result P GateFault → Type 0) (seen : P → Option (List Seen)) (st : AStore S K) (k : ADisk K) (life : List ℕ)
     (old new : D) (was now : S) (before after : O) (words : List (List ℕ)) (end : DaemonEnd) (plan : DaemonPlan)
     → daemon (settings words) ≡ Some (daemon_of plan) → after ≡ before
     → ((path : List ℕ) → (daemon_of plan).file ≡ Some path → KeepsAs opens seen st k life (daemon_of plan) path old new was now end)

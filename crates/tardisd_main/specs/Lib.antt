@@ -1,4 +1,5 @@
 -- What a server does.
+pub mod Doors
 pub mod Ends
 pub mod Sites
 pub mod Files

@@ -2,9 +2,10 @@
 use Rattle.std.specs.Prelude.{◌≡◌, ℕ, ◌++◌, ◌≤◌, ◌⊎◌, List, length, Option, Some, None, Result, Ok, Err}
 use Rattle.disk_store.specs.declared.disks.Disk.{Ghosts as ADisk}
 use Rattle.disk_store.specs.declared.stores.Store.{Ghosts as AStore}
+use Rattle.command_words.specs.Doors.{DoorAt}
 use Rattle.command_words.specs.Settings.{settings}
 use Rattle.command_words.specs.Daemons.{Daemon, daemon}
-use Rattle.command_words.specs.Helps.{AskUsage, AskVersion}
+use Rattle.command_words.specs.Helps.{AskDaemonUsage, AskVersion}
 use Rattle.hub.specs.declared.ports.Seen.{Seen}
 use Rattle.hub.specs.declared.serves.End.{End}
 use Rattle.hub.specs.declared.serves.End.TheVariants.{Unsettled}
@@ -17,7 +18,7 @@ use Rattle.tardisd_main.specs.Stores.{KeepsAs}
 
 -- the words ask for nothing that the server does
 abbrev pub AreNone : List (List ℕ) → Type 0
-AreNone words = (daemon (settings words) ≡ None) × (AskUsage words → ⊥) × (AskVersion words → ⊥)
+AreNone words = (daemon (settings words) ≡ None) × (AskDaemonUsage words → ⊥) × (AskVersion words → ⊥)
 
 -- All of the text was written; or a front of it, where writing failed; or nothing, where there was no memory for the words.
 abbrev pub Tells : List ℕ → DaemonEnd → List ℕ → List ℕ → Type 0
@@ -34,20 +35,20 @@ EndsAs {P} seen (Ok ports) asked end =
     ⊎ ((left : P) × (why : End) × ServesPlace asked.place asked.tidy why (seen ports) (seen left) × (why ≡ Unsettled → ⊥) × (end ≡ end_by why))
 EndsAs seen (Err fault) asked end = end ≡ Gate fault
 
-module _ {D P : Type 0} (opens : List ℕ → Result P GateFault → Type 0) (seen : P → Option (List Seen)) where
-  -- The edge was asked to open at the address that was asked for, and this became of it. Where there was no memory for the
+module _ {D P : Type 0} (opens : List DoorAt → Result P GateFault → Type 0) (seen : P → Option (List Seen)) where
+  -- The edge was asked to open at the doors that were asked for, and this became of it. Where there was no memory for the
   -- words it wasn't asked.
   abbrev pub ServesAs : D → D → Daemon → DaemonEnd → Type 0
   ServesAs old new asked end =
-      ((end ≡ NoMemory) × (new ≡ old)) ⊎ ((opened : Result P GateFault) × opens asked.listen opened × EndsAs seen opened asked end)
+      ((end ≡ NoMemory) × (new ≡ old)) ⊎ ((opened : Result P GateFault) × opens asked.doors opened × EndsAs seen opened asked end)
 
-  -- words of a server without a file: the site at their place is served at their address, no file is opened, and nothing is written
+  -- words of a server without a file: the site at their place is served at their doors, no file is opened, and nothing is written
   abbrev pub Serves : {S O : Type 0} → D → D → S → S → O → O → List (List ℕ) → DaemonEnd → Type 0
   Serves old new was now before after words end =
       (asked : Daemon) → daemon (settings words) ≡ Some asked → asked.file ≡ None → ServesAs old new asked end × (now ≡ was) × (after ≡ before)
 
--- words of a server with a file: the site at their place is kept in it, and served at their address, and nothing is written
-abbrev pub KeepsFile : {D P S K O : Type 0} → (List ℕ → Result P GateFault → Type 0) → (P → Option (List Seen)) → AStore S K → ADisk K → List ℕ → D → D
+-- words of a server with a file: the site at their place is kept in it, and served at their doors, and nothing is written
+abbrev pub KeepsFile : {D P S K O : Type 0} → (List DoorAt → Result P GateFault → Type 0) → (P → Option (List Seen)) → AStore S K → ADisk K → List ℕ → D → D
     → S → S → O → O → List (List ℕ) → DaemonEnd → Type 0
 KeepsFile opens seen st k life old new was now before after words end =
     (asked : Daemon) (path : List ℕ) → daemon (settings words) ≡ Some asked → asked.file ≡ Some path

@@ -5,6 +5,7 @@ use Rattle.tardis_io.specs.Faults.{Rose}
 use Rattle.disk_store.specs.declared.disks.Disk.{Ghosts as ADisk}
 use Rattle.disk_store.specs.declared.stores.Store.{Ghosts as AStore}
 use Rattle.disk_store.specs.Stores.{ToldStore, Opens, Refuses, FindsHeld, with_back}
+use Rattle.command_words.specs.Doors.{DoorAt}
 use Rattle.command_words.specs.Daemons.{Daemon}
 use Rattle.hub.specs.declared.ports.Seen.{Seen}
 use Rattle.hub.specs.declared.serves.End.{End}
@@ -35,10 +36,10 @@ module _ {P K : Type 0} (seen : P → Option (List Seen)) (k : ADisk K) (tidy : 
   EndsKept front bodies site back (Ok ports) = ServedOver front bodies site back ports
   EndsKept front bodies site back (Err fault) = (end ≡ Gate fault) × Keeps k back front (starts site bodies)
 
-module _ {P K : Type 0} (opens : List ℕ → Result P GateFault → Type 0) (seen : P → Option (List Seen)) (k : ADisk K) (asked : Daemon) (end : DaemonEnd) where
-  -- the edge was asked to open at the address that was asked for, and this became of it
+module _ {P K : Type 0} (opens : List DoorAt → Result P GateFault → Type 0) (seen : P → Option (List Seen)) (k : ADisk K) (asked : Daemon) (end : DaemonEnd) where
+  -- the edge was asked to open at the doors that were asked for, and this became of it
   abbrev pub GoesOn : LogFront → List (List ℕ) → Site → K → Type 0
-  GoesOn front bodies site back = (opened : Result P GateFault) × (opens asked.listen opened × EndsKept seen k asked.tidy end front bodies site back opened)
+  GoesOn front bodies site back = (opened : Result P GateFault) × (opens asked.doors opened × EndsKept seen k asked.tidy end front bodies site back opened)
 
   -- A site was found on a disk, and only then the edge was asked to open.
   pub record ServedFrom (life : List ℕ) (disk back : K) : Type 0 where
@@ -48,7 +49,7 @@ module _ {P K : Type 0} (opens : List ℕ → Result P GateFault → Type 0) (se
     pub is_found : IsFound k asked.place life disk found bodies site
     pub goes_on : GoesOn found.front bodies site back
 
-module _ {D P S K : Type 0} (opens : List ℕ → Result P GateFault → Type 0) (seen : P → Option (List Seen)) (st : AStore S K) (k : ADisk K)
+module _ {D P S K : Type 0} (opens : List DoorAt → Result P GateFault → Type 0) (seen : P → Option (List Seen)) (st : AStore S K) (k : ADisk K)
     (life : List ℕ) (asked : Daemon) (path : List ℕ) (old new : D) (was now : S) (end : DaemonEnd) where
   -- There was no memory for the words or the site, and nothing was asked of the store and of the edge.
   pub record NothingAsked : Type 0 where

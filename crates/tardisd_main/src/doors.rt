@@ -1,11 +1,14 @@
 //! Where connections come from.
 
-ghost use Rattle.std.specs.Prelude.{ℕ, List, Result};
+ghost use Rattle.std.specs.Prelude.{◌≡◌, List, Result, map};
+ghost use Rattle.command_words.specs.Doors.{DoorAt, door_at};
 ghost use Rattle.tardisd_main.specs.declared.endings.GateFault.{GateFault};
+ghost use Rattle.tardisd_main.specs.Doors.{number_of};
 
 use crate::endings::GateFault;
-use command_words::Place;
+use command_words::{DoorKind, DoorPlan, Place};
 use hub::Ports;
+use site_doors::{FOR_ALL, FOR_CLIENTS, FOR_PEERS};
 
 /// What was found of a site in its file.
 #[derive(Clone, Copy)]
@@ -28,13 +31,25 @@ pub struct FoundSite {
 pub trait Doors {
     type Ports: Ports + Drop;
 
-    // what opening at an address may come to
-    ghost opens: { List ℕ → Result Self.Ports GateFault → Type 0 };
+    // what opening these doors may come to
+    ghost opens: { List DoorAt → Result Self.Ports GateFault → Type 0 };
 
-    /// Listens at an address: `unix:` and the path of a Unix socket, or `HOST:PORT` over TCP.
-    fn open(&mut self, address: &str) -> Result<Self::Ports, GateFault>
-        ensures opened { opens address.now result };
+    /// Listens at the doors, at each of them or at none. An address is `unix:` and the path of a Unix socket, or `HOST:PORT` over
+    /// TCP. A connection is told to a hub with the number of its door's kind (`number_of`).
+    fn open(&mut self, doors: &[DoorPlan<'_>]) -> Result<Self::Ports, GateFault>
+        ensures opened { opens (map door_at doors.now) result };
 
-    /// Is told that the site at the place is served at the address, and what was found in its file, where it has one.
-    fn announce(&mut self, place: Place, address: &str, found: Option<FoundSite>);
+    /// Is told that the site at the place is served at the doors, and what was found in its file, where it has one.
+    fn announce(&mut self, place: Place, doors: &[DoorPlan<'_>], found: Option<FoundSite>);
+}
+
+/// The number by which a site is told through which kind of door a connection came.
+pub fn number_of(kind: DoorKind) -> u8
+    ensures { result ≡ number_of kind }
+{
+    match kind {
+        DoorKind::All => FOR_ALL,
+        DoorKind::Clients => FOR_CLIENTS,
+        DoorKind::Peers => FOR_PEERS,
+    }
 }

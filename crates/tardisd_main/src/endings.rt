@@ -10,13 +10,13 @@ use std::fmt;
 /// Why no connection comes any more.
 #[derive(Clone, Copy, PartialEq, Eq)]
 pub enum GateFault {
-    /// The address has none of the forms, or its host isn't known.
+    /// An address has none of the forms, or its host isn't known.
     NoAddress,
-    /// A server that lives has the address.
+    /// A server that lives has the address of a door.
     InUse,
     /// Something else than a socket stands at the path.
     Occupied,
-    /// The system refused to listen there.
+    /// The system refused to listen at a door.
     Refused,
     /// The system can't be waited for.
     Lost,
@@ -117,7 +117,7 @@ impl fmt::Display for DaemonEnd {
             DaemonEnd::Told => Ok(()),
             DaemonEnd::Usage => write!(
                 f,
-                "usage: tardisd --listen ADDR [--sites M] [--site N] [--tidy] [--file PATH] (ADDR is unix:PATH or HOST:PORT)"
+                "usage: tardisd --listen ADDR | --clients ADDR | --peers ADDR .. [--sites M] [--site N] [--tidy] [--file PATH] (ADDR is unix:PATH or HOST:PORT)"
             ),
             DaemonEnd::WriteFailed => write!(f, "tardisd: write fault"),
             DaemonEnd::NoMemory => write!(f, "tardisd: out of memory"),
@@ -134,7 +134,7 @@ impl fmt::Display for GateFault {
             GateFault::NoAddress => {
                 write!(
                     f,
-                    "the address isn't unix:PATH or HOST:PORT, or its host isn't known"
+                    "an address isn't unix:PATH or HOST:PORT, or its host isn't known"
                 )
             }
             GateFault::InUse => write!(f, "another server listens there"),

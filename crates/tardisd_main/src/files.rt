@@ -30,7 +30,7 @@ use std::hash::RandomState;
 use tardis_base::NoMemory;
 use tardis_io::Failed;
 
-/// Serves the site at the plan's place, which is kept in the file at a path, over the connections at the plan's address. The file is
+/// Serves the site at the plan's place, which is kept in the file at a path, over the connections at the plan's doors. The file is
 /// opened first, and the site read from it; then the edge is opened. Nobody is told of what isn't in the file yet. Where the file is
 /// new it gets this life: 16 bytes that no other file of the site has. The cost of the start grows with the file.
 ///
@@ -39,13 +39,13 @@ pub fn serve_file<D: Doors, K: BytewiseDisk, S: Store<Disk = K>>(
     alloc: Global,
     keys: RandomState,
     life: [u8; 16],
-    plan: DaemonPlan<'_>,
+    plan: &DaemonPlan<'_>,
     path: &str,
     doors: &mut D,
     store: &mut S,
 ) -> DaemonEnd
-    requires place { IsPlace plan.place }
-    ensures { KeepsAs D.opens D.Ports.seen S.Store K.Disk life (daemon_of plan.entry) path.now doors.old doors.new store.old store.new result }
+    requires place { IsPlace plan.now.place }
+    ensures { KeepsAs D.opens D.Ports.seen S.Store K.Disk life (daemon_of plan.now) path.now doors.old doors.new store.old store.new result }
 {
     match RestSite::new(alloc, keys, plan.place.limits(), plan.place.site) {
         Ok(site) => serve_stored(alloc, site, life, plan, path, doors, store),
@@ -59,14 +59,14 @@ fn serve_stored<D: Doors, K: BytewiseDisk, S: Store<Disk = K>>(
     alloc: Global,
     site: RestSite,
     life: [u8; 16],
-    plan: DaemonPlan<'_>,
+    plan: &DaemonPlan<'_>,
     path: &str,
     doors: &mut D,
     store: &mut S,
 ) -> DaemonEnd
-    requires place { IsPlace plan.place }
-    requires opens { SiteStands site (opens_at plan.place) }
-    ensures { KeepsAs D.opens D.Ports.seen S.Store K.Disk life (daemon_of plan.entry) path.now doors.old doors.new store.old store.new result }
+    requires place { IsPlace plan.now.place }
+    requires opens { SiteStands site (opens_at plan.now.place) }
+    ensures { KeepsAs D.opens D.Ports.seen S.Store K.Disk life (daemon_of plan.now) path.now doors.old doors.new store.old store.new result }
 {
     match store.open_file(path) {
         Ok(disk) => {
@@ -95,13 +95,13 @@ fn serve_from<D: Doors, K: BytewiseDisk>(
     site: RestSite,
     disk: K,
     life: [u8; 16],
-    plan: DaemonPlan<'_>,
+    plan: &DaemonPlan<'_>,
     doors: &mut D,
 ) -> (DaemonEnd, K)
-    requires place { IsPlace plan.place }
-    requires opens { SiteStands site (opens_at plan.place) }
-    ensures { (IsRefused K.Disk plan.entry.place life disk result.1 result.0 × (doors.new ≡ doors.old))
-        ⊎ ServedFrom D.opens D.Ports.seen K.Disk (daemon_of plan.entry) result.0 life disk result.1 }
+    requires place { IsPlace plan.now.place }
+    requires opens { SiteStands site (opens_at plan.now.place) }
+    ensures { (IsRefused K.Disk plan.now.place life disk result.1 result.0 × (doors.new ≡ doors.old))
+        ⊎ ServedFrom D.opens D.Ports.seen K.Disk (daemon_of plan.now) result.0 life disk result.1 }
 {
     match open_log(alloc, site, disk, &front_of(plan.place, life)) {
         Ok(opened) => {
@@ -121,15 +121,15 @@ fn serve_log<D: Doors, K: BytewiseDisk>(
     alloc: Global,
     log: Logged<RestSite, K>,
     found: FoundSite,
-    plan: DaemonPlan<'_>,
+    plan: &DaemonPlan<'_>,
     doors: &mut D,
 ) -> (DaemonEnd, K)
     ensures { (bodies : List (List ℕ)) (site : Site) (marks : List Mark) → Stands resting K.Disk log (starts site bodies) marks
-        → GoesOn D.opens D.Ports.seen K.Disk (daemon_of plan.entry) result.0 log.file.front bodies site result.1 }
+        → GoesOn D.opens D.Ports.seen K.Disk (daemon_of plan.now) result.0 log.file.front bodies site result.1 }
 {
-    match doors.open(plan.listen) {
+    match doors.open(plan.doors.as_slice()) {
         Ok(ports) => {
-            doors.announce(plan.place, plan.listen, Some(found));
+            doors.announce(plan.place, plan.doors.as_slice(), Some(found));
             serve_ports(alloc, log, plan.tidy, ports)
         }
         Err(fault) => (DaemonEnd::Gate(fault), log.close()),

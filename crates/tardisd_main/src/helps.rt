@@ -22,15 +22,22 @@ pub const VERSION: &str = "tardisd 0.1.0\n";
 pub const USAGE: &str = "\
 tardisd: serves one site of a branch-and-merge key-value store to many clients
 
-usage: tardisd --listen ADDR [--sites M] [--site N] [--tidy] [--file PATH]
-                            serve at ADDR, which is unix:PATH or HOST:PORT, as site N
-                            of M sites (1 of 1), until it is killed; at most 256
-                            clients at once, and further ones wait; with --tidy
-                            states that nobody reads at any more are collected;
-                            with --file the site is kept in that file, made where
-                            there is none, and goes on from it at the next start
-       tardisd --help       this text
+usage: tardisd DOOR.. [--sites M] [--site N] [--tidy] [--file PATH]
+                            serve at 1 to 8 doors, as site N of M sites (1 of 1),
+                            until it is killed; with --tidy states that nobody
+                            reads at any more are collected; with --file the site
+                            is kept in that file, made where there is none, and
+                            goes on from it at the next start
+       tardisd --help       this text, as do -h and help
        tardisd --version    the version
+
+doors: --listen ADDR        all that there is may be asked
+       --clients ADDR       for clients: sessions, transactions, merges, reads
+       --peers ADDR         for other sites: they may fetch, and nothing else
+                            ADDR is unix:PATH, which is its owner's alone, or
+                            HOST:PORT, which is everybody's who reaches it; at
+                            most 256 connections at once, at all doors together,
+                            and a further one is told so and ended
 
 Requests and replies are described in docs/FORMATS.md, statuses in docs/COMMANDS.md.
 ";

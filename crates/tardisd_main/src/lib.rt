@@ -12,7 +12,7 @@ mod programs;
 mod sites;
 
 pub use asks::plan_of;
-pub use doors::{Doors, FoundSite};
+pub use doors::{Doors, FoundSite, number_of};
 pub use endings::{DaemonEnd, FileFault, GateFault};
 pub use files::serve_file;
 pub use helps::{USAGE, VERSION, help_text};

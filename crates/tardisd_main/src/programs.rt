@@ -5,7 +5,7 @@ ghost use Rattle.std.specs.String.{string_bytes};
 ghost use Rattle.std.specs.Vec.Iter.{into_iter_items};
 ghost use Rattle.tardis_io.specs.Faults.{Rose};
 ghost use Rattle.tardis_io.specs.Told.{WhileTold};
-ghost use Rattle.command_words.specs.Helps.{AskUsage, AskVersion};
+ghost use Rattle.command_words.specs.Helps.{AskDaemonUsage, AskVersion};
 ghost use Rattle.command_words.specs.Daemons.{daemon_of};
 ghost use Rattle.command_words.specs.Places.{IsPlace};
 ghost use Rattle.tardisd_main.specs.Runs.{AreNone, KeepsFile, Serves, ServesAs, Tells};
@@ -17,7 +17,7 @@ use crate::endings::{DaemonEnd, ending_of};
 use crate::files::serve_file;
 use crate::helps::{USAGE, VERSION, help_text};
 use crate::sites::serve_place;
-use command_words::{DaemonPlan, Help, help_of, words_behind_name};
+use command_words::{DaemonPlan, Help, daemon_help_of, words_behind_name};
 use disk_store::{BytewiseDisk, Store};
 use std::alloc::Global;
 use std::env::Args;
@@ -38,7 +38,7 @@ pub fn carry_out<D: Doors, K: BytewiseDisk, S: Store<Disk = K>, O: Sink>(
     ensures usage { result ≡ DaemonEnd.Usage → AreNone (map (λ w. string_bytes w) (drop 1 (into_iter_items args))) }
     ensures none { AreNone (map (λ w. string_bytes w) (drop 1 (into_iter_items args)))
         → ((result ≡ DaemonEnd.Usage) ⊎ (result ≡ DaemonEnd.NoMemory)) × (doors.new ≡ doors.old) × (store.new ≡ store.old) × (output.new ≡ output.old) }
-    ensures told_usage { AskUsage (map (λ w. string_bytes w) (drop 1 (into_iter_items args)))
+    ensures told_usage { AskDaemonUsage (map (λ w. string_bytes w) (drop 1 (into_iter_items args)))
         → (doors.new ≡ doors.old) × (store.new ≡ store.old) × WhileTold (O.given output.old) (O.given output.new) (Tells USAGE.now result) }
     ensures told_version { AskVersion (map (λ w. string_bytes w) (drop 1 (into_iter_items args)))
         → (doors.new ≡ doors.old) × (store.new ≡ store.old) × WhileTold (O.given output.old) (O.given output.new) (Tells VERSION.now result) }
@@ -55,7 +55,7 @@ pub fn carry_out<D: Doors, K: BytewiseDisk, S: Store<Disk = K>, O: Sink>(
     }
 }
 
-/// Does what the words ask for: tells of the program, or opens the edge at their address and serves the site at their place
+/// Does what the words ask for: tells of the program, or opens the edge at their doors and serves the site at their place
 /// over the connections that come, until the edge can't be waited for. With a file the site is read from it first, and kept in
 /// it; one that is new gets this life. Words without a form are `Usage`.
 pub fn tardisd<D: Doors, K: BytewiseDisk, S: Store<Disk = K>, O: Sink>(
@@ -70,7 +70,7 @@ pub fn tardisd<D: Doors, K: BytewiseDisk, S: Store<Disk = K>, O: Sink>(
     ensures usage { result ≡ DaemonEnd.Usage → AreNone (map (λ w. string_bytes w) words.now) }
     ensures none { AreNone (map (λ w. string_bytes w) words.now)
         → (result ≡ DaemonEnd.Usage) × (doors.new ≡ doors.old) × (store.new ≡ store.old) × (output.new ≡ output.old) }
-    ensures told_usage { AskUsage (map (λ w. string_bytes w) words.now)
+    ensures told_usage { AskDaemonUsage (map (λ w. string_bytes w) words.now)
         → (doors.new ≡ doors.old) × (store.new ≡ store.old) × WhileTold (O.given output.old) (O.given output.new) (Tells USAGE.now result) }
     ensures told_version { AskVersion (map (λ w. string_bytes w) words.now)
         → (doors.new ≡ doors.old) × (store.new ≡ store.old) × WhileTold (O.given output.old) (O.given output.new) (Tells VERSION.now result) }
@@ -80,10 +80,10 @@ pub fn tardisd<D: Doors, K: BytewiseDisk, S: Store<Disk = K>, O: Sink>(
     ensures write_later { O.faults output.old ≤ O.faults output.new }
     ensures write { result ≡ DaemonEnd.WriteFailed → Rose (O.faults output.old) (O.faults output.new) }
 {
-    match help_of(words) {
+    match daemon_help_of(words) {
         Some(help) => tell(help, output),
-        None => match plan_of(words) {
-            Ok(plan) => serve_plan(alloc, keys, life, plan, doors, store),
+        None => match plan_of(alloc, words) {
+            Ok(plan) => serve_plan(alloc, keys, life, &plan, doors, store),
             Err(refused) => refused,
         },
     }
@@ -108,14 +108,14 @@ fn serve_plan<D: Doors, K: BytewiseDisk, S: Store<Disk = K>>(
     alloc: Global,
     keys: RandomState,
     life: [u8; 16],
-    plan: DaemonPlan<'_>,
+    plan: &DaemonPlan<'_>,
     doors: &mut D,
     store: &mut S,
 ) -> DaemonEnd
-    requires place { IsPlace plan.place }
-    ensures memory { (daemon_of plan.entry).file ≡ None → ServesAs D.opens D.Ports.seen doors.old doors.new (daemon_of plan.entry) result × (store.new ≡ store.old) }
-    ensures file { (path : List ℕ) → (daemon_of plan.entry).file ≡ Some path
-        → KeepsAs D.opens D.Ports.seen S.Store K.Disk life (daemon_of plan.entry) path doors.old doors.new store.old store.new result }
+    requires place { IsPlace plan.now.place }
+    ensures memory { (daemon_of plan.now).file ≡ None → ServesAs D.opens D.Ports.seen doors.old doors.new (daemon_of plan.now) result × (store.new ≡ store.old) }
+    ensures file { (path : List ℕ) → (daemon_of plan.now).file ≡ Some path
+        → KeepsAs D.opens D.Ports.seen S.Store K.Disk life (daemon_of plan.now) path doors.old doors.new store.old store.new result }
     ensures neither { (result ≡ DaemonEnd.Usage → ⊥) × (result ≡ DaemonEnd.WriteFailed → ⊥) }
 {
     match plan.file {
@@ -124,19 +124,19 @@ fn serve_plan<D: Doors, K: BytewiseDisk, S: Store<Disk = K>>(
     }
 }
 
-/// Opens the edge at the plan's address, and serves the site at its place, which is in memory.
+/// Opens the edge at the plan's doors, and serves the site at its place, which is in memory.
 fn open_and_serve<D: Doors>(
     alloc: Global,
     keys: RandomState,
-    plan: DaemonPlan<'_>,
+    plan: &DaemonPlan<'_>,
     doors: &mut D,
 ) -> DaemonEnd
-    requires place { IsPlace plan.place }
-    ensures { ServesAs D.opens D.Ports.seen doors.old doors.new (daemon_of plan.entry) result }
+    requires place { IsPlace plan.now.place }
+    ensures { ServesAs D.opens D.Ports.seen doors.old doors.new (daemon_of plan.now) result }
 {
-    match doors.open(plan.listen) {
+    match doors.open(plan.doors.as_slice()) {
         Ok(mut ports) => {
-            doors.announce(plan.place, plan.listen, None);
+            doors.announce(plan.place, plan.doors.as_slice(), None);
             match serve_place(alloc, keys, plan.place, plan.tidy, &mut ports) {
                 Ok(end) => ending_of(end),
                 Err(NoMemory) => DaemonEnd::NoMemory,

@@ -1,0 +1,80 @@
+//! Connections over Unix sockets and TCP.
+
+ghost use Rattle.std.specs.Prelude.{◌≡◌, length};
+ghost use Rattle.std.specs.Io.{ReadsAtMost, WritesAtMost};
+
+use hub::SLOTS;
+use mio::net::{TcpStream, UnixStream};
+use mio::{Interest, Registry, Token};
+use std::io::{self, Read, Write};
+use std::net::Shutdown;
+use wire_talk::{refusal_codes, reply_codes};
+
+/// A connection.
+#[derive(Drop)]
+pub(crate) enum Stream {
+    Unix(UnixStream),
+    Tcp(TcpStream),
+}
+
+/// What a connection is told that finds no room: the reply Refused, with the refusal SessionsFull and how many there are.
+const FULL: [u8; 8] = [0, 0, 0, 4, reply_codes::REFUSED, refusal_codes::SESSIONS_FULL, 1, 0];
+
+const _: () = prove!(SLOTS == 256);
+
+impl Stream {
+    pub(crate) fn register(
+        &mut self,
+        registry: &Registry,
+        token: Token,
+        interest: Interest,
+    ) -> io::Result<()> {
+        match self {
+            Stream::Unix(stream) => registry.register(stream, token, interest),
+            Stream::Tcp(stream) => registry.register(stream, token, interest),
+        }
+    }
+
+    pub(crate) fn reregister(
+        &mut self,
+        registry: &Registry,
+        token: Token,
+        interest: Interest,
+    ) -> io::Result<()> {
+        match self {
+            Stream::Unix(stream) => registry.reregister(stream, token, interest),
+            Stream::Tcp(stream) => registry.reregister(stream, token, interest),
+        }
+    }
+
+    pub(crate) fn read(&mut self, buf: &mut [u8]) -> io::Result<usize>
+        ensures bound { ReadsAtMost result buf.new }
+        ensures room { length buf.new ≡ length buf.old }
+    {
+        match self {
+            Stream::Unix(stream) => stream.read(buf),
+            Stream::Tcp(stream) => stream.read(buf),
+        }
+    }
+
+    pub(crate) fn write(&mut self, bytes: &[u8]) -> io::Result<usize>
+        ensures bound { WritesAtMost result bytes.now }
+    {
+        match self {
+            Stream::Unix(stream) => stream.write(bytes),
+            Stream::Tcp(stream) => stream.write(bytes),
+        }
+    }
+
+    /// Tells the peer that there is no room for it. What it sent by now is read, so that the system, which gives up a connection
+    /// with bytes that nobody read, delivers what was told.
+    pub(crate) fn turn_away(mut self) {
+        let _ = self.write(&FULL);
+        let _ = match &self {
+            Stream::Unix(stream) => stream.shutdown(Shutdown::Write),
+            Stream::Tcp(stream) => stream.shutdown(Shutdown::Write),
+        };
+        let mut unread = [0; 1024];
+        let _ = self.read(&mut unread);
+    }
+}
