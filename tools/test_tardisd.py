@@ -10,10 +10,12 @@ folder that is removed.
 
 import os
 import random
+import re
 import select
 import shutil
 import signal
 import socket
+import stat
 import struct
 import subprocess
 import sys
@@ -30,9 +32,12 @@ LONGEST_FRAME = 1_048_576
 
 OPEN, BEGIN, CLOSE = b"\x01\x00", b"\x02\x00", b"\x15"
 OPEN_FOLLOWING, STAT = b"\x01\x01", b"\x10"
+RAISE_AUTO, PULL = b"\x0e", b"\x13\x01" + bytes(4)
 COMMIT, COMMIT_FREELY = b"\x06\x01\x00\x00", b"\x06\x00\x00\x00"
 OPENED, BEGUN = b"\x01" + bytes(6), b"\x02" + bytes(6)
 DONE = b"\x07"
+# Refused, SessionsFull, 256
+FULL = b"\x15\x04\x01\x00"
 
 
 def key(name):
@@ -72,7 +77,7 @@ def bodies_of(data):
 
 
 class Server:
-    """A server that runs, at a path or at a port of the loopback."""
+    """A server that runs, at a path or at a port of the loopback, and at more doors where the words name them."""
 
     def __init__(self, address, words=()):
         self.process = subprocess.Popen(
@@ -81,13 +86,14 @@ class Server:
         self.address = address
         self.line = first_line(self.process)
 
-    def connect(self):
-        if self.address.startswith("unix:"):
+    def connect(self, address=None):
+        address = address or self.address
+        if address.startswith("unix:"):
             made = socket.socket(socket.AF_UNIX, socket.SOCK_STREAM)
             made.settimeout(PATIENCE)
-            made.connect(self.address[len("unix:"):])
+            made.connect(address[len("unix:"):])
         else:
-            host, port = self.address.rsplit(":", 1)
+            host, port = address.rsplit(":", 1)
             made = socket.create_connection((host, int(port)), PATIENCE)
             made.setsockopt(socket.IPPROTO_TCP, socket.TCP_NODELAY, 1)
         return made
@@ -135,29 +141,116 @@ class Words(unittest.TestCase):
         self.addCleanup(shutil.rmtree, self.folder)
         self.address = "unix:" + os.path.join(self.folder, "s")
 
+    def path(self, *names):
+        return os.path.join(self.folder, *names)
+
     def test_help_and_version(self):
         status, told, line = run_words("--help")
         self.assertEqual((status, line), (0, ""))
-        self.assertIn("--listen ADDR", told)
+        for word in "--listen ADDR", "--clients ADDR", "--peers ADDR":
+            self.assertIn(word, told)
+        for word in "-h", "help":
+            self.assertEqual(run_words(word), (0, told, ""))
         self.assertEqual(run_words("--version"), (0, "tardisd 0.1.0\n", ""))
 
     def test_words_without_a_form_open_nothing(self):
-        for words in (), ("--sites", "2"), ("--listen", self.address, "--sites", "17"), ("--listen",), ("--listen", "-a"), ("x",):
+        nine = [word for place in range(9) for word in ("--listen", self.address + str(place))]
+        for words in ((), ("--sites", "2"), ("--listen", self.address, "--sites", "17"), ("--listen",), ("--listen", "-a"), ("x",),
+                      ("--help", "-h"), ("--peers", self.address, "--clients"), ("--clients", "unix:"), nine):
             status, told, line = run_words(*words)
             self.assertEqual((status, told), (1, ""), words)
             self.assertTrue(line.startswith("usage: tardisd --listen ADDR"), line)
         self.assertEqual(os.listdir(self.folder), [])
 
+    def is_refused(self, address, reason):
+        """Whether a server says that it can't listen at an address, and why."""
+        self.assertEqual(run_words("--listen", address), (7, "", "tardisd: gate fault: %s: %s\n" % (address, reason)))
+
     def test_gate_faults_are_named(self):
-        for address in "nowhere", "unix:" + os.path.join(self.folder, "no", "s"):
-            status, told, line = run_words("--listen", address)
-            self.assertEqual((status, told), (7, ""), address)
-            self.assertTrue(line.startswith("tardisd: gate fault: "), line)
+        self.is_refused("nowhere", "the address isn't unix:PATH or HOST:PORT, or its host isn't known")
+        self.is_refused("unix:" + self.path("no", "s"), "there is no such folder: make it, or name another path")
+        with open(self.path("file"), "w"):
+            pass
+        self.is_refused("unix:" + self.path("file", "s"), "there is no such folder: make it, or name another path")
+        self.is_refused("192.0.2.1:4000", "the host is no address of this machine: name one of its own, or 0.0.0.0 for all of them")
+        long = "the path is longer than 107 bytes, or its folder's than 97: name a shorter one"
+        self.is_refused("unix:" + self.path("s" * (108 - len(self.path("")))), long)
+        self.assertEqual(os.listdir(self.folder), ["file"])
+        longest = Server("unix:" + self.path("s" * (107 - len(self.path("")))))
+        longest.connect().close()
+        longest.end()
+
+    @unittest.skipIf(os.geteuid() == 0, "root may write everywhere")
+    def test_who_may_not_write_is_told(self):
+        os.mkdir(self.path("shut"), 0o500)
+        self.is_refused("unix:" + self.path("shut", "s"), "this user may not write there: name a path in a folder of the user's own")
+        status, told, line = run_words("--listen", self.address, "--file", self.path("shut", "file"))
+        self.assertEqual((status, told), (10, ""))
+        self.assertIn("this user may not read and write it, or its folder", line)
+
+    def test_a_file_that_is_not_opened_is_told_why(self):
+        os.mkfifo(self.path("pipe"))
+        for path, reason in ((self.path("no", "file"), "there is no such folder: make it, or name another file"),
+                             (self.folder, "it is a folder: name a file in it"),
+                             (self.path("pipe"), "it is no regular file: name another one")):
+            line = "tardisd: %s: %s\n" % (path, reason)
+            self.assertEqual(run_words("--listen", self.address, "--file", path), (10, "", line))
+        self.assertEqual(os.listdir(self.folder), ["pipe"])
+
+    def test_a_file_of_another_server_is_left_to_it(self):
+        words = ("--file", self.path("file"))
+        server = Server(self.address, words)
+        self.addCleanup(server.end)
+        line = "tardisd: another server has the file: end that one, or name another file\n"
+        self.assertEqual(run_words("--listen", self.address + "2", *words), (10, "", line))
+
+    def test_doors_let_in_what_they_are_for(self):
+        clients, peers = self.address + "c", self.address + "p"
+        server = Server(self.address, ("--clients", clients, "--peers", peers))
+        self.addCleanup(server.end)
+        self.assertEqual(server.line, "tardisd: site 1 of 1 listens at %s, at %s for clients, at %s for peers\n" % (self.address, clients, peers))
+        asked = OPEN, STAT, RAISE_AUTO, PULL, CLOSE
+        # Refused, Unsupported
+        refused = [b"\x15\x1b" + body[:1] for body in asked]
+        told = {}
+        for address in self.address, clients, peers:
+            with server.connect(address) as connection:
+                told[address] = ask(connection, *asked)
+        for address, let_in in (self.address, (0, 1, 2, 3, 4)), (clients, (0, 1, 4)), (peers, (1, 3)):
+            for place, reply in enumerate(told[address]):
+                self.assertEqual(reply != refused[place], place in let_in, (address, place, reply))
+
+    def test_a_unix_socket_is_its_owners_alone(self):
+        before = os.umask(0)
+        try:
+            server = Server(self.address)
+        finally:
+            os.umask(before)
+        self.addCleanup(server.end)
+        found = os.lstat(self.path("s"))
+        self.assertEqual((stat.S_ISSOCK(found.st_mode), stat.S_IMODE(found.st_mode)), (True, 0o600))
+        self.assertEqual(os.listdir(self.folder), ["s"])
+
+    def test_a_door_that_fails_closes_the_others(self):
+        first, last = self.address, "unix:" + self.path("no", "s")
+        status, told, line = run_words("--listen", first, "--peers", last)
+        self.assertEqual((status, told), (7, ""))
+        self.assertTrue(line.startswith("tardisd: gate fault: %s: " % last), line)
+        self.assertEqual(os.listdir(self.folder), [])
+
+    def test_the_port_that_was_taken_is_told(self):
+        server = Server("127.0.0.1:0", ("--clients", "localhost:0"))
+        self.addCleanup(server.end)
+        told = re.fullmatch(r"tardisd: site 1 of 1 listens at (127\.0\.0\.1:\d+), at (localhost:\d+) for clients\n", server.line)
+        self.assertTrue(told, server.line)
+        for address in told.groups():
+            with server.connect(address) as connection:
+                self.assertEqual(ask(connection, OPEN), [OPENED])
 
     def test_a_living_servers_address_is_kept_and_a_dead_ones_taken(self):
         first = Server(self.address)
         self.addCleanup(first.end)
-        self.assertEqual(run_words("--listen", self.address), (7, "", "tardisd: gate fault: another server listens there\n"))
+        self.is_refused(self.address, "another server listens there: end that one, or name another address")
         with first.connect() as connection:
             self.assertEqual(ask(connection, OPEN), [OPENED])
         first.process.kill()
@@ -172,7 +265,7 @@ class Words(unittest.TestCase):
         path = os.path.join(self.folder, "s")
         with open(path, "w") as file:
             file.write("kept")
-        self.assertEqual(run_words("--listen", self.address), (7, "", "tardisd: gate fault: a file that is no socket stands there\n"))
+        self.is_refused(self.address, "a file that is no socket stands there, and was left as it is: name another path")
         with open(path) as file:
             self.assertEqual(file.read(), "kept")
 
@@ -192,7 +285,7 @@ class Words(unittest.TestCase):
         address = "127.0.0.1:%d" % free_port()
         first = Server(address)
         self.addCleanup(first.end)
-        self.assertEqual(run_words("--listen", address), (7, "", "tardisd: gate fault: another server listens there\n"))
+        self.is_refused(address, "another server listens there: end that one, or name another address")
 
     def test_the_site_is_that_of_the_words(self):
         server = Server(self.address, ("--sites", "3", "--site", "2"))
@@ -332,17 +425,17 @@ class Connections:
         told, left = bodies_of(data)
         self.assertEqual((len(told), left, len(set(told))), (4000, 0, 1))
 
-    def test_the_client_above_256_waits_for_a_slot(self):
+    def test_the_client_above_256_is_told_so(self):
         held = [self.connect() for _ in range(256)]
         for connection in held:
             self.assertEqual(ask(connection, OPEN), [OPENED])
-        waiting = self.connect()
-        waiting.sendall(frame(OPEN))
-        readable, _, _ = select.select([waiting], [], [], 0.5)
-        self.assertEqual(readable, [])
+        for _ in range(3):
+            self.assertEqual(read_to_end(self.connect()), frame(FULL))
         self.assertEqual(ask(held[9], BEGIN), [BEGUN])
         held[100].close()
-        self.assertEqual(read_bodies(waiting, 1), [OPENED])
+        self.assertEqual(ask(held[10], BEGIN), [BEGUN])
+        self.assertEqual(ask(self.connect(), OPEN), [OPENED])
+        self.assertEqual(read_to_end(self.connect()), frame(FULL))
 
     def test_three_thousand_connections_one_after_another(self):
         for place in range(3000):

@@ -1,6 +1,6 @@
 //! The doors at which a server listens.
 
-ghost use Rattle.std.specs.Prelude.{◌≡◌, ◌++◌, length, map, filter, filter_map, option_map, option_to_list, IfOk, OnOk};
+ghost use Rattle.std.specs.Prelude.{◌≡◌, is_some, length, map, filter, filter_map, option_map, IfOk};
 ghost use Rattle.std.specs.List.{list_all};
 ghost use Rattle.std.specs.String.{string_bytes};
 ghost use Rattle.command_words.specs.Settings.{settings};
@@ -45,6 +45,13 @@ fn kind_of(name: &str) -> Option<DoorKind>
     }
 }
 
+/// Whether an option of this name asks for a door.
+fn is_door_name(name: &str) -> bool
+    ensures { result ≡ is_some (kind_of name.now) }
+{
+    kind_of(name).is_some()
+}
+
 /// Whether the words ask for doors, at most 8, each at an address.
 pub(crate) fn are_doors(words: &[String]) -> bool
     ensures { result ≡ are_doors (settings (map (λ w. string_bytes w) words.now)) }
@@ -60,7 +67,7 @@ fn count_doors(words: &[String]) -> usize
     let mut count = 0;
     let mut left = words;
     while let Some(first) = split_first(left) {
-        if kind_of(first.name).is_some() {
+        if is_door_name(first.name) {
             count += 1;
         }
         left = first.rest;
@@ -74,7 +81,7 @@ fn have_addresses(words: &[String]) -> bool
 {
     let mut left = words;
     while let Some(first) = split_first(left) {
-        if kind_of(first.name).is_some() && !is_given_address(first.value) {
+        if is_door_name(first.name) && !is_given_address(first.value) {
             return false;
         }
         left = first.rest;
@@ -106,26 +113,23 @@ pub(crate) fn doors_of(alloc: Global, words: &[String]) -> Result<Vec<DoorPlan<'
     let mut plans = Vec::new(alloc);
     let mut left = words;
     while let Some(first) = split_first(left) {
-        push_door(&mut plans, first.name, first.value)?;
+        if let Some(plan) = door_of(first.name, first.value) {
+            match plans.push(plan) {
+                Ok(()) => {}
+                Err(_) => return Err(NoMemory),
+            }
+        }
         left = first.rest;
     }
     Ok(plans)
 }
 
-/// Puts the door for which an option asks behind the others.
-fn push_door<'a>(
-    plans: &mut Vec<DoorPlan<'a>>,
-    name: &str,
-    value: Option<&'a str>,
-) -> Result<(), NoMemory>
-    ensures { OnOk result (map door_at plans.new.items ≡ map door_at plans.old.items
-        ++ option_to_list (door_of (name.now, option_map (λ v. v.now) value.entry))) }
+/// The door for which an option of this name and value asks.
+fn door_of<'a>(name: &str, value: Option<&'a str>) -> Option<DoorPlan<'a>>
+    ensures { option_map door_at result ≡ door_of (name.now, option_map (λ v. v.now) value.entry) }
 {
     match (kind_of(name), value) {
-        (Some(kind), Some(address)) => match plans.push(DoorPlan { kind, address }) {
-            Ok(()) => Ok(()),
-            Err(_) => Err(NoMemory),
-        },
-        _ => Ok(()),
+        (Some(kind), Some(address)) => Some(DoorPlan { kind, address }),
+        _ => None,
     }
 }

@@ -1,5 +1,5 @@
 -- What the words of a server come to, by the calls that it makes for them.
-use Rattle.std.proofs.Common.{◌≡◌, ◌⊎◌, ⊎_elim, ◌∙◌, ℕ, true, false, List, Option, Some, None, Result, Ok, Err, sym, ap, subst}
+use Rattle.std.proofs.Common.{◌≡◌, ◌⊎◌, inl, ⊎_elim, ◌∙◌, ℕ, true, false, List, Option, Some, None, Result, Ok, Err, refl, sym, ap, subst}
 use Rattle.disk_store.specs.declared.disks.Disk.{Ghosts as ADisk}
 use Rattle.disk_store.specs.declared.stores.Store.{Ghosts as AStore}
 use Rattle.command_words.specs.Doors.{DoorAt}
@@ -22,7 +22,7 @@ use Rattle.tardisd_main.specs.Ends.{end_by}
 use Rattle.tardisd_main.specs.Sites.{ServesPlace}
 use Rattle.tardisd_main.specs.Files.{Keeps, ServesFile, IsRefused, not_opened}
 use Rattle.tardisd_main.specs.Stores.{EndsKept, ServedFrom, NothingAsked, NoFile, WithFile, KeepsAs}
-use Rattle.tardisd_main.specs.Runs.{EndsAs, ServesAs, KeepsFile}
+use Rattle.tardisd_main.specs.Runs.{EndsAs, ServesAs, Serves, KeepsFile}
 
 -- an end of words that were understood, and of which nothing had to be written
 abbrev pub Served : DaemonEnd → Type 0
@@ -113,3 +113,61 @@ keeps_file opens seen st k life old new was now before after words end plan says
           (keeps path (subst (λ (a : Daemon). a.file ≡ Some path) (sym asks) filed)),
       same,
     )
+
+-- words of which no plan was made: they have no form, or there was no memory for their doors
+abbrev pub Unplanned : List (List ℕ) → DaemonEnd → Type 0
+Unplanned words end =
+    ((end ≡ Usage) × (daemon (settings words) ≡ None)) ⊎ ((end ≡ NoMemory) × (asked : Daemon) × (daemon (settings words) ≡ Some asked))
+
+abbrev IsUsage : DaemonEnd → Type 0
+IsUsage Usage = Unit {0}
+IsUsage end = ⊥
+
+abbrev HasNothing : {A : Type 0} → Option A → Type 0
+HasNothing None = Unit {0}
+HasNothing (Some a) = ⊥
+
+no_form : {A : Type 0} (o : Option A) (a : A) → o ≡ None → o ≡ Some a → ⊥
+no_form {A} o a none some = subst (λ (p : Option A). HasNothing p) (sym none ∙ some) tt
+
+short : (end : DaemonEnd) → end ≡ NoMemory → Served end
+short end is = ends_so end NoMemory is tt
+
+-- words that are told as having no form have none
+pub unplanned_usage : (words : List (List ℕ)) (end : DaemonEnd) → Unplanned words end → end ≡ Usage → daemon (settings words) ≡ None
+unplanned_usage words end why is =
+    ⊎_elim (λ (p : (end ≡ Usage) × (daemon (settings words) ≡ None)). p.1)
+    (λ (p : (end ≡ NoMemory) × (asked : Daemon) × (daemon (settings words) ≡ Some asked)). absurd ((neither end (short end p.0)).0 is)) why
+
+-- words without a form are told so
+pub unplanned_none : (words : List (List ℕ)) (end : DaemonEnd) → Unplanned words end → daemon (settings words) ≡ None → end ≡ Usage
+unplanned_none words end why none =
+    ⊎_elim (λ (p : (end ≡ Usage) × (daemon (settings words) ≡ None)). p.0)
+    (λ (p : (end ≡ NoMemory) × (asked : Daemon) × (daemon (settings words) ≡ Some asked)). absurd (no_form (daemon (settings words)) p.1 none p.2)) why
+
+-- of words that have a form no plan is made for want of memory alone
+pub unplanned_some : (words : List (List ℕ)) (end : DaemonEnd) (asked : Daemon) → Unplanned words end → daemon (settings words) ≡ Some asked → end ≡ NoMemory
+unplanned_some words end asked why some =
+    ⊎_elim (λ (p : (end ≡ Usage) × (daemon (settings words) ≡ None)). absurd (no_form (daemon (settings words)) asked p.1 some))
+    (λ (p : (end ≡ NoMemory) × (asked : Daemon) × (daemon (settings words) ≡ Some asked)). p.0) why
+
+pub unplanned_unwritten : (words : List (List ℕ)) (end : DaemonEnd) → Unplanned words end → end ≡ WriteFailed → ⊥
+unplanned_unwritten words end why is =
+    ⊎_elim (λ (p : (end ≡ Usage) × (daemon (settings words) ≡ None)). subst (λ (e : DaemonEnd). IsUsage e) (sym p.0 ∙ is) tt)
+    (λ (p : (end ≡ NoMemory) × (asked : Daemon) × (daemon (settings words) ≡ Some asked)). (neither end (short end p.0)).1 is) why
+
+pub unplanned_serves : {D P S O : Type 0} (opens : List DoorAt → Result P GateFault → Type 0) (seen : P → Option (List Seen)) (old : D) (was : S) (before : O)
+    (words : List (List ℕ)) (end : DaemonEnd) → Unplanned words end → Serves opens seen old old was was before before words end
+unplanned_serves opens seen old was before words end why = λ asked is file. (inl (unplanned_some words end asked why is, refl), (refl, refl))
+
+pub unplanned_keeps : {D P S K O : Type 0} (opens : List DoorAt → Result P GateFault → Type 0) (seen : P → Option (List Seen)) (st : AStore S K) (k : ADisk K)
+    (life : List ℕ) (old : D) (was : S) (before : O) (words : List (List ℕ)) (end : DaemonEnd) → Unplanned words end
+    → KeepsFile opens seen st k life old old was was before before words end
+unplanned_keeps opens seen st k life old was before words end why =
+    λ asked path is filed.
+    let nothing = record { end_is = unplanned_some words end asked why is; no_edge = refl; no_file = refl } in
+    (record { became = inl nothing; still = λ h. h }, refl)
+
+-- what is asked for help is no answer to words that ask for none
+pub unasked : {A : Type 0} (a : A) → ◌≡◌ {A = Option A} None (Some a) → ⊥
+unasked {A} a is = no_form None a refl is

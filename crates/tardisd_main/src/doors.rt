@@ -2,11 +2,12 @@
 
 ghost use Rattle.std.specs.Prelude.{◌≡◌, List, Result, map};
 ghost use Rattle.command_words.specs.Doors.{DoorAt, door_at};
+ghost use Rattle.command_words.specs.Daemons.{daemon_of};
 ghost use Rattle.tardisd_main.specs.declared.endings.GateFault.{GateFault};
 ghost use Rattle.tardisd_main.specs.Doors.{number_of};
 
 use crate::endings::GateFault;
-use command_words::{DoorKind, DoorPlan, Place};
+use command_words::{DaemonPlan, DoorKind, DoorPlan, Place};
 use hub::Ports;
 use site_doors::{FOR_ALL, FOR_CLIENTS, FOR_PEERS};
 
@@ -41,6 +42,16 @@ pub trait Doors {
 
     /// Is told that the site at the place is served at the doors, and what was found in its file, where it has one.
     fn announce(&mut self, place: Place, doors: &[DoorPlan<'_>], found: Option<FoundSite>);
+}
+
+/// Opens the plan's doors.
+pub(crate) fn open_doors<D: Doors>(
+    doors: &mut D,
+    plan: &DaemonPlan<'_>,
+) -> Result<D::Ports, GateFault>
+    ensures { D.opens (daemon_of plan.now).doors result }
+{
+    doors.open(plan.doors.as_slice())
 }
 
 /// The number by which a site is told through which kind of door a connection came.

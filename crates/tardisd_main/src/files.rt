@@ -15,7 +15,7 @@ ghost use Rattle.site_doors.specs.Kept.{resting};
 ghost use Rattle.tardisd_main.specs.Files.{front_at, opens_at, not_opened, IsRefused};
 ghost use Rattle.tardisd_main.specs.Stores.{KeepsAs, GoesOn, ServedFrom, ServedOver};
 
-use crate::doors::{Doors, FoundSite};
+use crate::doors::{Doors, FoundSite, open_doors};
 use crate::endings::{DaemonEnd, FileFault, ending_of};
 use crate::sites::upkeep_of;
 use command_words::{DaemonPlan, Place};
@@ -127,7 +127,7 @@ fn serve_log<D: Doors, K: BytewiseDisk>(
     ensures { (bodies : List (List ℕ)) (site : Site) (marks : List Mark) → Stands resting K.Disk log (starts site bodies) marks
         → GoesOn D.opens D.Ports.seen K.Disk (daemon_of plan.now) result.0 log.file.front bodies site result.1 }
 {
-    match doors.open(plan.doors.as_slice()) {
+    match open_doors(doors, plan) {
         Ok(ports) => {
             doors.announce(plan.place, plan.doors.as_slice(), Some(found));
             serve_ports(alloc, log, plan.tidy, ports)

@@ -12,7 +12,7 @@ ghost use Rattle.tardisd_main.specs.Runs.{AreNone, KeepsFile, Serves, ServesAs, 
 ghost use Rattle.tardisd_main.specs.Stores.{KeepsAs};
 
 use crate::asks::plan_of;
-use crate::doors::Doors;
+use crate::doors::{Doors, open_doors};
 use crate::endings::{DaemonEnd, ending_of};
 use crate::files::serve_file;
 use crate::helps::{USAGE, VERSION, help_text};
@@ -134,7 +134,7 @@ fn open_and_serve<D: Doors>(
     requires place { IsPlace plan.now.place }
     ensures { ServesAs D.opens D.Ports.seen doors.old doors.new (daemon_of plan.now) result }
 {
-    match doors.open(plan.doors.as_slice()) {
+    match open_doors(doors, plan) {
         Ok(mut ports) => {
             doors.announce(plan.place, plan.doors.as_slice(), None);
             match serve_place(alloc, keys, plan.place, plan.tidy, &mut ports) {
