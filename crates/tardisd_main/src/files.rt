@@ -147,11 +147,9 @@ fn serve_ports<P: Ports + Drop, K: BytewiseDisk>(
         → ServedOver P.seen K.Disk tidy result.0 log.file.front bodies site result.1 ports }
 {
     let (mut asked, mut ports) = (AskedLog { alloc, log }, ports);
-    let served = serve(alloc, &mut asked, &mut ports, upkeep_of(tidy));
-    let AskedLog { alloc: _, log } = asked;
-    match served {
-        Ok(end) => (ending_of(end), log.close()),
-        Err(NoMemory) => (DaemonEnd::NoMemory, log.close()),
+    match serve(alloc, &mut asked, &mut ports, upkeep_of(tidy)) {
+        Ok(end) => (ending_of(end), asked.log.close()),
+        Err(NoMemory) => (DaemonEnd::NoMemory, asked.log.close()),
     }
 }
 

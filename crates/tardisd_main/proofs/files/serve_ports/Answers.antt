@@ -17,6 +17,8 @@ returns-in-Ok g c = λ bodies site marks stands.
 
 pub returns : goal.returns
 returns g c = λ bodies site marks stands.
-    let old = record { alloc = c.args.alloc; log = c.args.log } in
-    inl (refl, untouched g.K.Disk c.args.log c.serve.new.machine.log c.close-in-Err.result (starts site bodies)
-    (same_log c.serve.new.machine old c.in-Err.ensures.nothing.0) c.close-in-Err.ensures (marks, stands))
+    inl (
+      refl,
+      untouched g.K.Disk c.args.log c.serve.new.machine.log c.close-in-Err.result (starts site bodies)
+          (same_log c.serve.new.machine (record { alloc = c.args.alloc; log = c.args.log }) c.in-Err.ensures.nothing.0) c.close-in-Err.ensures (marks, stands),
+    )
