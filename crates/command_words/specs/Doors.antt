@@ -1,5 +1,5 @@
 -- The doors at which a server listens, by its words.
-use Rattle.std.specs.Prelude.{ℕ, Bool, true, false, ◌&&◌, not, List, Option, None, Some, codes, bytes_eq, length, filter, filter_map, option_map, option_and_then, is_some}
+use Rattle.std.specs.Prelude.{ℕ, Bool, false, ◌&&◌, not, List, Option, None, Some, codes, bytes_eq, length, filter, filter_map, option_map, option_and_then, is_some}
 use Rattle.std.specs.Prelude.{if◌then◌else◌}
 use Rattle.std.specs.List.{list_all}
 use Rattle.tardis_base.specs.Bytes.{is_within}

@@ -18,7 +18,16 @@ pub(crate) enum Stream {
 }
 
 /// What a connection is told that finds no room: the reply Refused, with the refusal SessionsFull and how many there are.
-const FULL: [u8; 8] = [0, 0, 0, 4, reply_codes::REFUSED, refusal_codes::SESSIONS_FULL, 1, 0];
+const FULL: [u8; 8] = [
+    0,
+    0,
+    0,
+    4,
+    reply_codes::REFUSED,
+    refusal_codes::SESSIONS_FULL,
+    1,
+    0,
+];
 
 const _: () = prove!(SLOTS == 256);
 

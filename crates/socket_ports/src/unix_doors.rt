@@ -81,10 +81,21 @@ fn bind_private<R: Files + Net + RandomSource>(
     path: &str,
 ) -> io::Result<UnixListener> {
     let folder = private_folder(rt, alloc, parent_of(path))?;
+    let bound = bind_within(rt, alloc, folder.as_str(), path);
+    let _ = fs::remove_dir(rt, folder.as_str());
+    bound
+}
+
+/// Binds a socket in a folder, gives it its mode and its name, and takes it out of the folder.
+fn bind_within<R: Files + Net>(
+    rt: &R,
+    alloc: Global,
+    folder: &str,
+    path: &str,
+) -> io::Result<UnixListener> {
     let made = format!(in alloc; "{folder}/s")?;
     let bound = bind_and_name(rt, made.as_str(), path);
     let _ = fs::remove_file(rt, made.as_str());
-    let _ = fs::remove_dir(rt, folder.as_str());
     bound
 }
 

@@ -65,6 +65,7 @@ impl<'a> SocketDoors<'a> {
             Ok(door) => {
                 let bound = door.socket_addr();
                 if self.bound.push(bound).is_err() || opened.push(door).is_err() {
+                    self.remove_socket(plan);
                     return Err(GateFault::Refused);
                 }
                 Ok(())
@@ -80,9 +81,14 @@ impl<'a> SocketDoors<'a> {
     /// Takes away the sockets of doors that were opened.
     fn give_up(&self, doors: &[DoorPlan<'_>]) {
         for plan in doors.iter() {
-            if let Some(path) = path_of(plan.address) {
-                let _ = fs::remove_file(self.rt, path);
-            }
+            self.remove_socket(plan);
+        }
+    }
+
+    /// Takes away the socket of a door that was opened.
+    fn remove_socket(&self, plan: &DoorPlan<'_>) {
+        if let Some(path) = path_of(plan.address) {
+            let _ = fs::remove_file(self.rt, path);
         }
     }
 

@@ -2,10 +2,9 @@
 
 use crate::words::{FileReason, Unopened};
 use command_words::{read_daemon, words_behind_name};
-use std::env;
 use std::fs::{self, OpenOptions};
-use std::io;
 use std::path::Path;
+use std::{env, io};
 
 /// Tells of the file that the words name why it can't be opened. Where the words can't be had again nothing is told.
 pub(crate) fn tell_unopened(rt: &HostRuntime) -> bool {

@@ -2,9 +2,8 @@
 
 use command_words::{DoorKind, DoorPlan};
 use socket_ports::{DoorFault, path_of};
-use std::fmt;
-use std::io;
 use std::net::SocketAddr;
+use std::{fmt, io};
 use tardisd_main::FoundSite;
 
 /// Where the doors are, one after another, with the ports that were taken.
@@ -111,7 +110,10 @@ impl fmt::Display for Faulty<'_> {
                 f,
                 "a file that is no socket stands there, and was left as it is: name another path"
             ),
-            DoorFault::NoFolder => write!(f, "there is no such folder: make it, or name another path"),
+            DoorFault::NoFolder => write!(
+                f,
+                "there is no such folder: make it, or name another path"
+            ),
             DoorFault::LongPath => write!(
                 f,
                 "the path is longer than 107 bytes, or its folder's than 97: name a shorter one"
@@ -161,7 +163,10 @@ impl fmt::Display for Unopened<'_> {
     fn fmt<W: fmt::Write>(&self, f: &mut fmt::Formatter<W>) -> fmt::Result {
         write!(f, "tardisd: {}: ", self.path)?;
         match self.reason {
-            FileReason::NoFolder => write!(f, "there is no such folder: make it, or name another file"),
+            FileReason::NoFolder => write!(
+                f,
+                "there is no such folder: make it, or name another file"
+            ),
             FileReason::Folder => write!(f, "it is a folder: name a file in it"),
             FileReason::Irregular => write!(f, "it is no regular file: name another one"),
             FileReason::Forbidden => write!(
