@@ -248,6 +248,18 @@ class Connections:
         self.assertEqual(read_bodies(connection, 6), [
             OPENED, BEGUN, DONE, b"\x08" + one + b"\x01" + state(0, 0), b"\x02" + one, b"\x04" + one + b"\x00\x011"])
 
+    def test_questions_are_answered_beside_requests(self):
+        one, start = state(1, 1), state(0, 0)
+        at_one = b"\x40" + one + key(b"x")
+        told = ask(self.connect(), at_one, OPEN, BEGIN, put(b"x", b"1"), COMMIT, at_one, b"\x41" + one + bytes(2), b"\x45\x00", b"\xff")
+        self.assertEqual(told, [
+            b"\x15\x09" + one, OPENED, BEGUN, DONE, b"\x08" + one + b"\x01" + start,
+            b"\x40\x01" + one + b"\x01\x00\x011",
+            b"\x41" + bytes([0, 0, 0, 1, 0, 1]) + key(b"x"),
+            # the floor may go to the start, where the one session's ceiling is, which holds it
+            b"\x45" + start + bytes([0, 0, 0, 1, 0, 1, 0, 1, 0]) + start + one + b"\x00\x01",
+            b"\x15\x01"])
+
     def test_after_a_half_close_all_replies_come(self):
         connection = self.connect()
         connection.sendall(frames([OPEN] + [b"\x10"] * 10_000))

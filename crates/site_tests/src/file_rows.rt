@@ -10,9 +10,10 @@ pub const COMMITTED: &str = "\
 1 0200         02000100000001               begin any => begun 1.1
 1 040178000132 07                           put x 2 => done";
 
-/// The commit is there. The session and its transaction are gone, and their number serves anew.
+/// The commit is there, also for a question. The session and its transaction are gone, and their number serves anew.
 pub const COMMITTED_AGAIN: &str = "\
 1 030178       1502                         get x => refused notopen
+1 400001000000010178 400100010000000101000131 x at 1.1 => 1.1 1
 1 0100         01000000000000               open => opened 0.0
 1 06010000     1506                         commit ser => refused notxn
 1 0200         02000100000001               begin any => begun 1.1

@@ -51,6 +51,8 @@ mod of_session_serve;
 #[cfg(test)]
 mod of_site_commands;
 #[cfg(test)]
+mod of_site_doors;
+#[cfg(test)]
 mod of_site_journal;
 #[cfg(test)]
 mod of_site_sync;

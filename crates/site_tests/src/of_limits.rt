@@ -24,7 +24,7 @@ pub(crate) const ONE_PAIR: Limits = Limits {
     ..LIMITS
 };
 
-const SIXTEEN_SITES: Limits = Limits {
+pub(crate) const SIXTEEN_SITES: Limits = Limits {
     sites: 16,
     ..LIMITS
 };
@@ -133,7 +133,7 @@ fn keys_and_values_have_their_lengths(rt: HostRuntime) {
 }
 
 /// The bytes of the id of the state behind so many commits of site 1.
-fn id_behind(commits: u8) -> [u8; 6] {
+pub(crate) fn id_behind(commits: u8) -> [u8; 6] {
     [0, commits.min(1), 0, 0, 0, commits]
 }
 

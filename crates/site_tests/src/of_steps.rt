@@ -76,7 +76,12 @@ fn replies_to_all(
 }
 
 /// A site that opens with these limits, as the first.
-fn opened(rt: &impl Abort, alloc: Global, keys: RandomState, limits: Limits) -> SiteCore {
+pub(crate) fn opened(
+    rt: &impl Abort,
+    alloc: Global,
+    keys: RandomState,
+    limits: Limits,
+) -> SiteCore {
     assert!(rt; limits.valid());
     assert!(rt; 1 <= limits.sites);
     SiteCore::new(alloc, keys, limits, 1).expect(rt, "room")

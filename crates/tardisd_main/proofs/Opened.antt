@@ -18,9 +18,10 @@ use Rattle.site_log.specs.Images.{Mark}
 use Rattle.site_log.specs.Reads.{IsWanted}
 use Rattle.site_log.specs.Opens.{Finds, IsOpened, OpeningLeaves, IsRefused as IsLogRefused}
 use Rattle.site_log.specs.Stood.{Stands}
+use Rattle.site_doors.specs.Kept.{resting}
 use Rattle.tardisd_main.specs.declared.endings.GateFault.{GateFault}
 use Rattle.tardisd_main.specs.declared.endings.DaemonEnd.{DaemonEnd}
-use Rattle.tardisd_main.specs.Files.{resting, front_at, opens_at, not_opened, IsRefused}
+use Rattle.tardisd_main.specs.Files.{front_at, opens_at, not_opened, IsRefused}
 use Rattle.tardisd_main.specs.Stores.{GoesOn, ServedFrom}
 
 module _ {K : Type 0} (k : ADisk K) where

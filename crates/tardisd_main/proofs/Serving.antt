@@ -14,8 +14,10 @@ use Rattle.site_log.specs.declared.logged.Logged.{Logged}
 use Rattle.site_log.specs.Kept.{Kept, starts, opens_with}
 use Rattle.site_log.specs.Images.{Mark}
 use Rattle.site_log.specs.Stood.{Stands}
+use Rattle.site_doors.specs.declared.asked_logs.AskedLog.{AskedLog}
+use Rattle.site_doors.specs.Kept.{resting}
 use Rattle.tardisd_main.specs.Sites.{upkeep_rule}
-use Rattle.tardisd_main.specs.Files.{resting, kept_site, Keeps, ServesFile}
+use Rattle.tardisd_main.specs.Files.{kept_site, Keeps, ServesFile}
 use Rattle.tardisd_main.proofs.Runs.{weaker}
 
 abbrev life_in : List (List ℕ) → List ℕ
@@ -35,6 +37,10 @@ front_in kept = record {
 -- a front that stays as it is
 pub same_front : {S : Type 0} (a b : LogFront) (s t : S) → opens_with a s ≡ opens_with b t → a ≡ b
 same_front a b s t e = ap front_in e
+
+-- a site behind its doors that stays as it is has its log still
+pub same_log : {K : Type 0} (a b : AskedLog K) → a ≡ b → a.log ≡ b.log
+same_log a b e = ap (λ c. c.log) e
 
 -- the log's machine stands for this, with some moments
 abbrev pub StandsFor : {K : Type 0} → ADisk K → Logged Core K → Kept Site → Type 0

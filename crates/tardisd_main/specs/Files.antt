@@ -2,20 +2,18 @@
 use Rattle.std.specs.Prelude.{◌≡◌, ℕ, Bool, List, map, Option}
 use Rattle.tardis_io.specs.Faults.{Rose}
 use Rattle.disk_store.specs.declared.disks.Disk.{Ghosts as ADisk}
-use Rattle.rest_machine.specs.declared.resting.Resting.{Ghosts as AResting}
 use Rattle.command_words.specs.declared.commands.Place.{Place}
 use Rattle.command_words.specs.Places.{program_limits}
 use Rattle.hub.specs.declared.ports.Seen.{Seen}
 use Rattle.hub.specs.declared.serves.End.{End}
-use Rattle.hub.specs.Settlings.{PlainSettling, settling}
+use Rattle.hub.specs.Settlings.{PlainSettling, behind_doors}
+use Rattle.hub.specs.Doors.{seen_through}
 use Rattle.hub.specs.Runs.{IsRun}
 use Rattle.log_groups.specs.declared.fronts.LogFront.{LogFront}
 use Rattle.plain_site.specs.Site.{Site, opening}
-use Rattle.plain_site.specs.Step.{site_machine}
 use Rattle.plain_site.specs.Sound.{IsSound}
 use Rattle.session_core.specs.Core.{Core}
-use Rattle.session_core.specs.Machine.{SiteStands, opened_with}
-use Rattle.rest_site.specs.Bytes.{lasting_bytes, TakesBack}
+use Rattle.session_core.specs.Machine.{SiteStands}
 use Rattle.site_log.specs.declared.ends.OpenEnd.{OpenEnd}
 use Rattle.site_log.specs.declared.ends.OpenEnd.TheVariants.{Disk as DiskFailed, NotALog, OtherVersion, BadFront, OtherSite, OtherLimits, Damaged, Unfit, NoMemory}
 use Rattle.site_log.specs.declared.opens.FoundLog.{FoundLog}
@@ -23,6 +21,7 @@ use Rattle.site_log.specs.Kept.{Kept, IsSettled, with_settle, starts, logged, Ta
 use Rattle.site_log.specs.Images.{Mark, IsSafe}
 use Rattle.site_log.specs.Reads.{IsWanted}
 use Rattle.site_log.specs.Opens.{Finds, OpeningLeaves, IsRefused as IsLogRefused}
+use Rattle.site_doors.specs.Kept.{resting, kept_doors}
 use Rattle.tardisd_main.specs.declared.endings.FileFault.TheVariants.{Disk as DiskFails, NotALog as IsNoLog, OtherVersion as IsOtherVersion, BadFront as HasBadFront, OtherSite as IsOtherSite, OtherLimits as HasOtherLimits, Damaged as IsDamagedAt, Unfit as IsUnfitAt}
 use Rattle.tardisd_main.specs.declared.endings.DaemonEnd.{DaemonEnd}
 use Rattle.tardisd_main.specs.declared.endings.DaemonEnd.TheVariants.{NoMemory as WantedMemory, File}
@@ -38,13 +37,9 @@ front_at place life =
     let limits = program_limits place.sites in
     record { sites = limits.sites; own = place.site; max_kept = limits.max_kept; max_path = limits.max_path; max_sessions = limits.max_sessions; life = life }
 
--- the site as a machine that starts again from what lasted
-abbrev pub resting : AResting Core
-resting = record { Plain = Site; plain = site_machine; stands = SiteStands; opening = opened_with; lasting = lasting_bytes; takes_back = TakesBack }
-
--- the site with what lasted of its requests, which settles by putting that into its file
+-- the site with what lasted of its requests, behind its doors, which settles by putting that into its file
 abbrev pub kept_site : PlainSettling (Kept Site)
-kept_site = settling (logged resting) IsSettled with_settle
+kept_site = behind_doors (logged resting) (seen_through (logged resting) kept_doors) IsSettled with_settle
 
 -- how a server ends whose log isn't opened
 abbrev pub not_opened : OpenEnd → DaemonEnd

@@ -11,7 +11,8 @@ ghost use Rattle.session_core.specs.Machine.{SiteStands};
 ghost use Rattle.site_log.specs.Kept.{starts};
 ghost use Rattle.site_log.specs.Images.{Mark};
 ghost use Rattle.site_log.specs.Stood.{Stands};
-ghost use Rattle.tardisd_main.specs.Files.{resting, front_at, opens_at, not_opened, IsRefused};
+ghost use Rattle.site_doors.specs.Kept.{resting};
+ghost use Rattle.tardisd_main.specs.Files.{front_at, opens_at, not_opened, IsRefused};
 ghost use Rattle.tardisd_main.specs.Stores.{KeepsAs, GoesOn, ServedFrom, ServedOver};
 
 use crate::doors::{Doors, FoundSite};
@@ -22,6 +23,7 @@ use disk_store::{BytewiseDisk, Store};
 use hub::{Ports, serve};
 use log_groups::LogFront;
 use rest_site::RestSite;
+use site_doors::AskedLog;
 use site_log::{FoundLog, Logged, NotOpened, OpenEnd, OpenedLog, open_log};
 use std::alloc::Global;
 use std::hash::RandomState;
@@ -144,10 +146,10 @@ fn serve_ports<P: Ports + Drop, K: BytewiseDisk>(
     ensures { (bodies : List (List ℕ)) (site : Site) (marks : List Mark) → Stands resting K.Disk log (starts site bodies) marks
         → ServedOver P.seen K.Disk tidy result.0 log.file.front bodies site result.1 ports }
 {
-    let (mut log, mut ports) = (log, ports);
-    match serve(alloc, &mut log, &mut ports, upkeep_of(tidy)) {
-        Ok(end) => (ending_of(end), log.close()),
-        Err(NoMemory) => (DaemonEnd::NoMemory, log.close()),
+    let (mut asked, mut ports) = (AskedLog { alloc, log }, ports);
+    match serve(alloc, &mut asked, &mut ports, upkeep_of(tidy)) {
+        Ok(end) => (ending_of(end), asked.log.close()),
+        Err(NoMemory) => (DaemonEnd::NoMemory, asked.log.close()),
     }
 }
 
