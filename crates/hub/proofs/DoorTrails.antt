@@ -1,6 +1,6 @@
 -- Runs behind doors.
 use Rattle.std.proofs.Common.{◌≡◌, ℕ, ◌+◌, Bool, true, false, List, [], ◌∷◌, ◌++◌, map, Option, Some, None, ◌⊎◌, ◌∙◌, refl, sym, ap, subst, inl, inr}
-use Rattle.std.specs.Prelude.{filter, if◌then◌else◌}
+use Rattle.std.specs.Prelude.{if◌then◌else◌}
 use Rattle.tardis_base.specs.Plain.{Event, PlainMachine, Answers, no_memory}
 use Rattle.hub.specs.Settlings.{PlainSettling, behind_doors}
 use Rattle.hub.specs.Answering.{asks}
@@ -8,10 +8,10 @@ use Rattle.hub.specs.Talks.{Talk}
 use Rattle.hub.specs.Turns.{Turn, Rested, Opened, Missed, TurnedAway, Received, Sent, Ended, KeptUp, Settled, talk}
 use Rattle.hub.specs.Runs.{close, Ran, Leads, AnswersTo}
 use Rattle.hub.specs.Doors.{DoorRules, seen_through}
-use Rattle.hub.specs.DoorLaws.{Entry, with_replies, door_of, entries_of, entries, is_let_in, let_in, IsReply, AreReplies, IsTrail, IsAnsweredAt}
+use Rattle.hub.specs.DoorLaws.{Entry, with_replies, door_of, entries_of, entries, is_let_in, let_in, IsReply, IsTrail, IsAnsweredAt}
 use Rattle.hub.specs.DoorLaws.{IsTrailBehindDoors, IsSeenBehind}
 use Rattle.hub.proofs.Serving.{answers_append}
-use Rattle.hub.proofs.Trails.{answers_shown, seen_in_memory}
+use Rattle.hub.proofs.Trails.{answers_shown}
 
 -- one request is let in, or it is answered at its door; and several, one after another
 abbrev StepsBy : {S : Type 0} → PlainMachine S → DoorRules S → Bool → S → Entry → S → Type 0

@@ -1,9 +1,8 @@
 -- A run from its start to its end.
-use Rattle.std.proofs.Common.{◌≡◌, ℕ, ◌+◌, ◌-◌, ◌==◌, inl, inr, List, [], ◌∷◌, ◌++◌, Option, Some, None, refl, sym, ap, ◌∙◌, subst, arith, append_assoc}
-use Rattle.std.specs.Prelude.{nat_le, if◌then◌else◌}
+use Rattle.std.proofs.Common.{◌≡◌, ℕ, ◌+◌, ◌-◌, inl, inr, List, [], ◌∷◌, ◌++◌, Option, Some, None, refl, sym, ap, ◌∙◌, subst, arith, append_assoc}
+use Rattle.std.specs.Prelude.{Bool, true, false, ◌||◌, nat_le, if◌then◌else◌}
+use Rattle.std.specs.Option.{option_map}
 use Rattle.std.proofs.lemmas.List.{append-nil}
-use Rattle.std.proofs.lemmas.Bool.{cases_Bool, le-leb, leb-true, eq-eqb, eqb-true, false_from_ne_true}
-use Rattle.hub.specs.declared.upkeeps.Tally.{Tally}
 use Rattle.hub.specs.declared.ports.Ready.{Ready}
 use Rattle.hub.specs.declared.ports.Ready.TheVariants.{Write, Stop}
 use Rattle.hub.specs.declared.ports.Seen.{Seen}
@@ -12,10 +11,10 @@ use Rattle.hub.specs.declared.serves.End.TheVariants.{Stopped, Spent, Unsettled}
 use Rattle.hub.specs.Settlings.{PlainSettling}
 use Rattle.hub.specs.Connections.{ConnectionState, connection_at}
 use Rattle.hub.specs.Telling.{Tells}
-use Rattle.hub.specs.Upkeeps.{UpkeepRule, counted, whole_tally, noted, due_by}
+use Rattle.hub.specs.Upkeeps.{UpkeepRule, TallyState, first_tally, noted, passed, paid, due_by, due_under, ends_with}
 use Rattle.hub.specs.Answering.{Asked}
 use Rattle.hub.specs.Turns.{Turn, Rested, Opened, Missed, TurnedAway, Received, Sent, Ended, KeptUp, Settled, talk, calls_of, calls_in}
-use Rattle.hub.specs.Timing.{since, due, IsTimely, AreTimely}
+use Rattle.hub.specs.Timing.{unpaid, has_backlog, due, IsTimely, AreTimely}
 use Rattle.hub.specs.Runs.{counts, count_of, IsRun}
 use Rattle.hub.specs.Keeping.{Fits, IsNoted, IsTally, AreBefore, GoesOn, Turned, IsUnsettled, Led}
 use Rattle.hub.proofs.Holding.{each_talk}
@@ -40,7 +39,7 @@ pub tells_lost : (o n : Option (List Seen)) (calls : List Seen) → n ≡ None �
 tells_lost o n calls none = subst (λ z. Tells o z calls) (sym none) (tells_no_more o calls)
 
 -- an offer, and what was done of it
-pub turned : {S : Type 0} (w : PlainSettling S) (from to : S → Type 0) (old new : List (Option ConnectionState)) (offer : Ready) (tally next : Tally)
+pub turned : {S : Type 0} (w : PlainSettling S) (from to : S → Type 0) (old new : List (Option ConnectionState)) (offer : Ready) (tally next : TallyState)
     (a b c : Option (List Seen)) → Tells a b (Offered offer ∷ []) → GoesOn w from to old new offer tally next b c → Turned w from to old new tally next a c
 turned w from to old new offer tally next a b c p goes s turns keeps =
     let on = goes s turns keeps in
@@ -54,17 +53,12 @@ turned w from to old new offer tally next a b c p goes s turns keeps =
     }
 
 -- no turn yet
-all_left : (rule : UpkeepRule) → whole_tally (Some rule) ≡ record { code = rule.code; left = rule.after - 0 }
-all_left rule =
-    let all : rule.after ≡ rule.after - 0 = omega arith in
-    ap (λ n. record { code = rule.code; left = n }) all
+tally_start : (rule : Option UpkeepRule) → IsTally rule (first_tally rule) []
+tally_start None = refl
+tally_start (Some rule) = refl
 
-tally_start : (rule : Option UpkeepRule) → IsTally rule (whole_tally rule) []
-tally_start None = tt
-tally_start (Some rule) = all_left rule
-
-pub led_start : {S : Type 0} (w : PlainSettling S) (rule : Option UpkeepRule) (from : S → Type 0) (s : S) (connections : List (Option ConnectionState)) (tally : Tally)
-    (a : Option (List Seen)) → from s → ((n : ℕ) → connection_at connections n ≡ None) → tally ≡ whole_tally rule → Led w rule from s connections tally a a 0
+pub led_start : {S : Type 0} (w : PlainSettling S) (rule : Option UpkeepRule) (from : S → Type 0) (s : S) (connections : List (Option ConnectionState)) (tally : TallyState)
+    (a : Option (List Seen)) → from s → ((n : ℕ) → connection_at connections n ≡ None) → tally ≡ first_tally rule → Led w rule from s connections tally a a 0
 led_start w rule from s connections tally a f free whole = record {
   turns = [];
   keeps = record { state = s; ran = refl; stands = f; served = tt; fits = λ n. subst (λ l. Fits None l) (sym (free n)) tt };
@@ -75,19 +69,38 @@ led_start w rule from s connections tally a f free whole = record {
 }
 
 -- what is due is what the tally says
-due_some : (rule : UpkeepRule) (n left : ℕ) → left ≡ rule.after - n → nat_le rule.after n ≡ (left == 0)
-due_some rule n left is = elim (cases_Bool (left == 0)) [
-  | inl none ↦ le-leb rule.after n (omega (arith, is, eqb-true left 0 none)) ∙ sym none
-  | inr some ↦ false_from_ne_true (nat_le rule.after n) (λ few. cc (eq-eqb left 0 (omega (arith, is, leb-true rule.after n few)), some)) ∙ sym some
-]
+requests_if : (rule : UpkeepRule) (b : Bool) → (if b then Some rule.requests else None) ≡ option_map (λ r. r.requests) (if b then Some rule else None)
+requests_if rule true = refl
+requests_if rule false = refl
 
-pub due_is : (rule : Option UpkeepRule) (tally : Tally) (turns : List Turn) → IsTally rule tally turns → due rule turns ≡ due_by tally rule
-due_is None tally turns is = refl
+pub due_is : (rule : Option UpkeepRule) (tally : TallyState) (turns : List Turn) → IsTally rule tally turns → due rule turns ≡ option_map (λ r. r.requests) (due_by tally)
+due_is None tally turns is = ap (λ rule. option_map (λ r. r.requests) (due_under rule tally.count tally.backlog)) (sym is)
 due_is (Some rule) tally turns is =
-    ap (λ b. if b then Some rule.requests else None) (due_some rule (since rule.code turns) tally.left (ap (λ t. t.left) is))
+    requests_if rule (nat_le rule.after (unpaid rule turns) || has_backlog rule.full turns) ∙ ap (λ t. option_map (λ r. r.requests) (due_by t)) (sym is)
+
+-- and none is due where it says none
+pub due_none : (rule : Option UpkeepRule) (tally : TallyState) (turns : List Turn) → IsTally rule tally turns → due_by tally ≡ None → due rule turns ≡ None
+due_none rule tally turns is none = due_is rule tally turns is ∙ ap (option_map (λ (r : UpkeepRule). r.requests)) none
+
+-- what is due is the rule
+if_some : (rule other : UpkeepRule) (b : Bool) → (if b then Some rule else None) ≡ Some other → Some rule ≡ Some other
+if_some rule other true is = is
+if_some rule other false is = absurd (cc)
+
+under_rule : (rule : Option UpkeepRule) (other : UpkeepRule) (count : ℕ) (backlog : Bool) → due_under rule count backlog ≡ Some other → rule ≡ Some other
+under_rule None other count backlog is = absurd (cc)
+under_rule (Some rule) other count backlog is = if_some rule other (nat_le rule.after count || backlog) is
+
+rule_in : (rule : Option UpkeepRule) (tally : TallyState) (turns : List Turn) → IsTally rule tally turns → tally.rule ≡ rule
+rule_in None tally turns is = is
+rule_in (Some rule) tally turns is = ap (λ t. t.rule) is
+
+due_rule : (rule : Option UpkeepRule) (tally : TallyState) (turns : List Turn) (other : UpkeepRule) → IsTally rule tally turns → due_by tally ≡ Some other →
+    rule ≡ Some other
+due_rule rule tally turns other is some = sym (rule_in rule tally turns is) ∙ under_rule tally.rule other tally.count tally.backlog some
 
 -- the next turn is one of the edge where nothing is due
-timely_more : (rule : Option UpkeepRule) (tally next : Tally) (older : List Turn) (turn : Turn) → IsNoted tally next turn → due rule older ≡ None →
+timely_more : (rule : Option UpkeepRule) (tally next : TallyState) (older : List Turn) (turn : Turn) → IsNoted tally next turn → due rule older ≡ None →
     IsTimely rule older turn
 timely_more rule tally next older (Rested offer) p none = none
 timely_more rule tally next older (Opened slot door) p none = none
@@ -100,26 +113,28 @@ timely_more rule tally next older (KeptUp bodies replies) p none = absurd p
 timely_more rule tally next older Settled p none = absurd p
 
 -- and its replies are counted
-noted_since : (rule : UpkeepRule) (tally next : Tally) (n : ℕ) (replies : List (List ℕ)) → tally ≡ record { code = rule.code; left = rule.after - n } →
-    next ≡ noted tally replies → next ≡ record { code = rule.code; left = rule.after - (n + counted rule.code replies) }
-noted_since rule tally next n replies is p =
-    let less : (rule.after - n) - counted rule.code replies ≡ rule.after - (n + counted rule.code replies) = omega arith in
-    subst (λ t. next ≡ noted t replies) is p ∙ ap (λ k. record { code = rule.code; left = k }) less
-
-tally_more : (rule : Option UpkeepRule) (tally next : Tally) (older : List Turn) (turn : Turn) → IsTally rule tally older → IsNoted tally next turn →
-    IsTally rule next (turn ∷ older)
-tally_more None tally next older turn is p = tt
-tally_more (Some rule) tally next older (Rested offer) is p = p ∙ is
-tally_more (Some rule) tally next older (Opened slot door) is p = p ∙ is
-tally_more (Some rule) tally next older (Missed slot) is p = p ∙ is
-tally_more (Some rule) tally next older TurnedAway is p = p ∙ is
-tally_more (Some rule) tally next older (Received slot room came bodies replies) is p = noted_since rule tally next (since rule.code older) replies is p
-tally_more (Some rule) tally next older (Sent slot offered wrote bodies replies) is p = noted_since rule tally next (since rule.code older) replies is p
-tally_more (Some rule) tally next older (Ended slot) is p = p ∙ is
+tally_more : (rule : Option UpkeepRule) (tally next : TallyState) (older : List Turn) (turn : Turn) → IsTally rule tally older → IsNoted tally next turn →
+    IsTally rule (passed next) (turn ∷ older)
+tally_more None tally next older (Rested offer) is p = ap (λ t. t.rule) p ∙ is
+tally_more None tally next older (Opened slot door) is p = ap (λ t. t.rule) p ∙ is
+tally_more None tally next older (Missed slot) is p = ap (λ t. t.rule) p ∙ is
+tally_more None tally next older TurnedAway is p = ap (λ t. t.rule) p ∙ is
+tally_more None tally next older (Received slot room came bodies replies) is p = ap (λ t. t.rule) p ∙ is
+tally_more None tally next older (Sent slot offered wrote bodies replies) is p = ap (λ t. t.rule) p ∙ is
+tally_more None tally next older (Ended slot) is p = ap (λ t. t.rule) p ∙ is
+tally_more None tally next older (KeptUp bodies replies) is p = absurd p
+tally_more None tally next older Settled is p = absurd p
+tally_more (Some rule) tally next older (Rested offer) is p = ap passed (p ∙ is)
+tally_more (Some rule) tally next older (Opened slot door) is p = ap passed (p ∙ is)
+tally_more (Some rule) tally next older (Missed slot) is p = ap passed (p ∙ is)
+tally_more (Some rule) tally next older TurnedAway is p = ap passed (p ∙ is)
+tally_more (Some rule) tally next older (Received slot room came bodies replies) is p = ap passed (p ∙ ap (λ t. noted t replies) is)
+tally_more (Some rule) tally next older (Sent slot offered wrote bodies replies) is p = ap passed (p ∙ ap (λ t. noted t replies) is)
+tally_more (Some rule) tally next older (Ended slot) is p = ap passed (p ∙ is)
 tally_more (Some rule) tally next older (KeptUp bodies replies) is p = absurd p
 tally_more (Some rule) tally next older Settled is p = absurd p
 
-counts_one : (tally next : Tally) (turn : Turn) → IsNoted tally next turn → counts turn ≡ 1
+counts_one : (tally next : TallyState) (turn : Turn) → IsNoted tally next turn → counts turn ≡ 1
 counts_one tally next (Rested offer) p = refl
 counts_one tally next (Opened slot door) p = refl
 counts_one tally next (Missed slot) p = refl
@@ -131,22 +146,22 @@ counts_one tally next (KeptUp bodies replies) p = absurd p
 counts_one tally next Settled p = absurd p
 
 -- what is so of turns and doesn't look at a settling is so where one is behind them
-tally_settled : (rule : Option UpkeepRule) (tally : Tally) (turns : List Turn) → IsTally rule tally turns → IsTally rule tally (Settled ∷ turns)
-tally_settled None tally turns is = tt
+tally_settled : (rule : Option UpkeepRule) (tally : TallyState) (turns : List Turn) → IsTally rule tally turns → IsTally rule tally (Settled ∷ turns)
+tally_settled None tally turns is = is
 tally_settled (Some rule) tally turns is = is
 
 due_settled : (rule : Option UpkeepRule) (turns : List Turn) → due rule turns ≡ None → due rule (Settled ∷ turns) ≡ None
 due_settled None turns none = refl
 due_settled (Some rule) turns none = none
 
-record Behind (rule : Option UpkeepRule) (tally : Tally) (turns earlier : List Turn) : Type 0 where
+record Behind (rule : Option UpkeepRule) (tally : TallyState) (turns earlier : List Turn) : Type 0 where
   calls : calls_in earlier ≡ calls_in turns
   many : count_of earlier ≡ count_of turns
   timely : AreTimely rule earlier
   tallied : IsTally rule tally earlier
   none : due rule earlier ≡ None
 
-behind_is : (rule : Option UpkeepRule) (tally : Tally) (turns earlier : List Turn) → AreBefore turns earlier → AreTimely rule turns → IsTally rule tally turns →
+behind_is : (rule : Option UpkeepRule) (tally : TallyState) (turns earlier : List Turn) → AreBefore turns earlier → AreTimely rule turns → IsTally rule tally turns →
     due rule turns ≡ None → Behind rule tally turns earlier
 behind_is rule tally turns earlier behind timely tallied none =
     let more : count_of turns + 0 ≡ count_of turns = omega arith in
@@ -161,19 +176,26 @@ behind_is rule tally turns earlier behind timely tallied none =
       })
     ]
 
--- the count begins anew with an upkeep
-kept_tally : (rule : Option UpkeepRule) (next : Tally) (bodies replies : List (List ℕ)) (older : List Turn) → next ≡ whole_tally rule →
+-- an upkeep pays off what it says
+kept_under : (rule : UpkeepRule) (tally next : TallyState) (more : Bool) (bodies replies : List (List ℕ)) (older : List Turn) → IsTally (Some rule) tally older →
+    next ≡ paid tally rule.after more → more ≡ ends_with rule.full replies → IsTally (Some rule) next (KeptUp bodies replies ∷ older)
+kept_under rule tally next more bodies replies older is pays says =
+    pays ∙ (ap (λ t. paid t rule.after more) is ∙ ap (λ b. record { rule = Some rule; count = unpaid rule older - rule.after; more = b; backlog = false }) says)
+
+kept_tally : (rule : Option UpkeepRule) (other : UpkeepRule) (tally next : TallyState) (more : Bool) (bodies replies : List (List ℕ)) (older : List Turn) →
+    rule ≡ Some other → IsTally rule tally older → next ≡ paid tally other.after more → more ≡ ends_with other.full replies →
     IsTally rule next (KeptUp bodies replies ∷ older)
-kept_tally None next bodies replies older whole = tt
-kept_tally (Some rule) next bodies replies older whole = whole ∙ all_left rule
+kept_tally rule other tally next more bodies replies older same is pays says =
+    subst (λ r. IsTally r next (KeptUp bodies replies ∷ older)) (sym same)
+    (kept_under other tally next more bodies replies older (subst (λ r. IsTally r tally older) same is) pays says)
 
 -- one turn of the edge more
 pub led_more : {S : Type 0} (w : PlainSettling S) (rule : Option UpkeepRule) (from to : S → Type 0) (s : S) (old new : List (Option ConnectionState))
-    (tally next : Tally) (a b c : Option (List Seen)) (count : ℕ) → Led w rule from s old tally a b count → due_by tally rule ≡ None →
-    Turned w from to old new tally next b c → Led w rule to s new next a c (count + 1)
-led_more w rule from to s old new tally next a b c count led none goes =
+    (tally next later : TallyState) (a b c : Option (List Seen)) (count : ℕ) → Led w rule from s old tally a b count → due_by tally ≡ None →
+    Turned w from to old new tally next b c → later ≡ passed next → Led w rule to s new later a c (count + 1)
+led_more w rule from to s old new tally next later a b c count led none goes passes =
     let on = goes s led.turns led.keeps in
-    let behind = behind_is rule tally led.turns on.earlier on.behind led.timely led.tallied (due_is rule tally led.turns led.tallied ∙ none) in
+    let behind = behind_is rule tally led.turns on.earlier on.behind led.timely led.tallied (due_none rule tally led.turns led.tallied none) in
     let one : counts on.turn ≡ 1 = counts_one tally next on.turn on.noted in
     record {
       turns = on.turn ∷ on.earlier;
@@ -181,18 +203,19 @@ led_more w rule from to s old new tally next a b c count led none goes =
       seen = tells_then a b c (calls_in on.earlier) (calls_of on.turn) (subst (λ calls. Tells a b calls) (sym behind.calls) led.seen) on.told;
       many = omega (arith, led.many, behind.many, one);
       timely = (timely_more rule tally next on.earlier on.turn on.noted behind.none, behind.timely);
-      tallied = tally_more rule tally next on.earlier on.turn behind.tallied on.noted;
+      tallied = subst (λ t. IsTally rule t (on.turn ∷ on.earlier)) (sym passes)
+          (tally_more rule tally next on.earlier on.turn behind.tallied on.noted);
     }
 
 -- an upkeep more
 pub led_kept : {S : Type 0} (w : PlainSettling S) (rule : Option UpkeepRule) (from to : S → Type 0) (s : S) (connections : List (Option ConnectionState))
-    (tally next : Tally) (a b : Option (List Seen)) (count : ℕ) (bodies : List (List ℕ)) → Led w rule from s connections tally a b count → due_by tally rule
-    ≡ Some bodies → next ≡ whole_tally rule
-    → ((u : S) → from u → Asked w.machine to bodies u) → Led w rule to s connections next a b (count + 1)
-led_kept w rule from to s connections tally next a b count bodies led is whole asked =
+    (tally next : TallyState) (a b : Option (List Seen)) (count : ℕ) (other : UpkeepRule) (more : Bool) → Led w rule from s connections tally a b count →
+    due_by tally ≡ Some other → next ≡ paid tally other.after more → ((u : S) → from u → Asked w.machine to other.requests other.full more u) →
+    Led w rule to s connections next a b (count + 1)
+led_kept w rule from to s connections tally next a b count other more led is pays asked =
     let k = asked led.keeps.state led.keeps.stands in
     record {
-      turns = KeptUp bodies k.replies ∷ led.turns;
+      turns = KeptUp other.requests k.replies ∷ led.turns;
       keeps = record {
         state = k.state;
         ran = (led.keeps.state, (led.keeps.ran, k.answers));
@@ -202,13 +225,13 @@ led_kept w rule from to s connections tally next a b count bodies led is whole a
       };
       seen = subst (λ calls. Tells a b calls) (sym (append-nil (calls_in led.turns))) led.seen;
       many = omega (arith, led.many);
-      timely = (due_is rule tally led.turns led.tallied ∙ is, led.timely);
-      tallied = kept_tally rule next bodies k.replies led.turns whole;
+      timely = (due_is rule tally led.turns led.tallied ∙ ap (option_map (λ (r : UpkeepRule). r.requests)) is, led.timely);
+      tallied = kept_tally rule other tally next more other.requests k.replies led.turns (due_rule rule tally led.turns other led.tallied is) led.tallied pays k.says;
     }
 
 -- the edge said stop
-pub run_stopped : {S : Type 0} (w : PlainSettling S) (rule : Option UpkeepRule) (to : S → Type 0) (s : S) (connections : List (Option ConnectionState)) (tally : Tally)
-    (a b c : Option (List Seen)) (count : ℕ) → Led w rule to s connections tally a b count → due_by tally rule ≡ None → Tells b c (Offered Stop ∷ []) →
+pub run_stopped : {S : Type 0} (w : PlainSettling S) (rule : Option UpkeepRule) (to : S → Type 0) (s : S) (connections : List (Option ConnectionState)) (tally : TallyState)
+    (a b c : Option (List Seen)) (count : ℕ) → Led w rule to s connections tally a b count → due_by tally ≡ None → Tells b c (Offered Stop ∷ []) →
     IsRun w rule to s Stopped a c
 run_stopped w rule to s connections tally a b c count led none stop = record {
   turns = led.turns;
@@ -219,11 +242,11 @@ run_stopped w rule to s connections tally a b c count led none stop = record {
   last = Offered Stop ∷ [];
   seen = tells_then a b c (calls_in led.turns) (Offered Stop ∷ []) led.seen stop;
   timely = led.timely;
-  ended = (refl, due_is rule tally led.turns led.tallied ∙ none);
+  ended = (refl, due_none rule tally led.turns led.tallied none);
 }
 
 -- as many turns were made as may be
-pub run_spent : {S : Type 0} (w : PlainSettling S) (rule : Option UpkeepRule) (to : S → Type 0) (s : S) (connections : List (Option ConnectionState)) (tally : Tally)
+pub run_spent : {S : Type 0} (w : PlainSettling S) (rule : Option UpkeepRule) (to : S → Type 0) (s : S) (connections : List (Option ConnectionState)) (tally : TallyState)
     (a b : Option (List Seen)) (count : ℕ) → Led w rule to s connections tally a b count → count ≡ 18446744073709551615 → IsRun w rule to s Spent a b
 run_spent w rule to s connections tally a b count led all = record {
   turns = led.turns;
@@ -239,7 +262,7 @@ run_spent w rule to s connections tally a b count led all = record {
 
 -- what was answered couldn't be settled
 pub run_unsettled : {S : Type 0} (w : PlainSettling S) (rule : Option UpkeepRule) (from to : S → Type 0) (s : S) (connections : List (Option ConnectionState))
-    (tally : Tally) (a b c : Option (List Seen)) (count : ℕ) → Led w rule from s connections tally a b count → due_by tally rule ≡ None →
+    (tally : TallyState) (a b c : Option (List Seen)) (count : ℕ) → Led w rule from s connections tally a b count → due_by tally ≡ None →
     IsUnsettled from to connections b c → IsRun w rule to s Unsettled a c
 run_unsettled w rule from to s connections tally a b c count led none unsettled =
     let slot = unsettled.1.0 in
@@ -254,7 +277,7 @@ run_unsettled w rule from to s connections tally a b c count led none unsettled 
       timely = led.timely;
       ended = (
         slot,
-        (refl, waits_at (talk slot led.turns) (connection_at connections slot) (led.keeps.fits slot) unsettled.1.1.0, due_is rule tally led.turns led.tallied ∙ none),
+        (refl, waits_at (talk slot led.turns) (connection_at connections slot) (led.keeps.fits slot) unsettled.1.1.0, due_none rule tally led.turns led.tallied none),
       );
     }
 

@@ -1,7 +1,7 @@
 -- Requests that are cut from bytes and answered, one after another.
 use Rattle.std.proofs.Common.{◌≡◌, ℕ, ◌+◌, ◌-◌, ◌≤◌, ◌<◌, min, Bool, true, false, List, [], ◌∷◌, ◌++◌, length, take, drop, get_or, ◌⊎◌, map, refl, sym, ap}
 use Rattle.std.proofs.Common.{◌∙◌, subst, inl, inr, arith, append_assoc}
-use Rattle.std.specs.Prelude.{filter}
+use Rattle.std.specs.Prelude.{filter, bytes_eq, Option, Some, None}
 use denote.Ref.{Bor}
 use Rattle.std.proofs.Math.Seq.{take-suc}
 use Rattle.std.proofs.lemmas.List.{append-nil, map-append, length-append, length-map, take_all, get_or-map}
@@ -12,8 +12,7 @@ use Rattle.frame_cut.specs.Frames.{frame, frames, IsBody, Cuts}
 use Rattle.frame_cut.proofs.Joins.{frames-append, more_bodies}
 use Rattle.frame_cut.proofs.Words.{length-frame}
 use Rattle.tardis_base.specs.Sizes.{piece, longest_framed}
-use Rattle.hub.specs.declared.upkeeps.Tally.{Tally}
-use Rattle.hub.specs.Upkeeps.{begins_with, counted, noted}
+use Rattle.hub.specs.Upkeeps.{UpkeepRule, TallyState, begins_with_one_of, counted_by, ends_with, noted}
 use Rattle.hub.specs.Answering.{asks, Replied, Answered, Serves, Asked}
 use Rattle.hub.specs.Connections.{IsStopped}
 
@@ -31,12 +30,17 @@ answers_append m s [] fs (y ∷ ys) zs t u p q = absurd p
 answers_append m s (e ∷ es) fs [] zs t u p q = absurd p
 
 -- nothing was cut yet
-pub noted_none : (tally : Tally) → tally ≡ noted tally []
-noted_none tally =
-    let all : tally.left ≡ tally.left - 0 = omega arith in
-    ap (λ n. record { code = tally.code; left = n }) all
+counted_none : (rule : Option UpkeepRule) → counted_by rule [] ≡ 0
+counted_none None = refl
+counted_none (Some rule) = refl
 
-abbrev pub serves_none : {S : Type 0} (m : PlainMachine S) (from : S → Type 0) (actor : ℕ) (held waiting : List ℕ) (tally : Tally) →
+pub noted_none : (tally : TallyState) → tally ≡ noted tally []
+noted_none tally =
+    let none : counted_by tally.rule [] ≡ 0 = counted_none tally.rule in
+    let all : tally.count ≡ tally.count + counted_by tally.rule [] = omega (arith, none) in
+    ap (λ n. record { rule = tally.rule; count = n; more = tally.more; backlog = tally.backlog }) all
+
+abbrev pub serves_none : {S : Type 0} (m : PlainMachine S) (from : S → Type 0) (actor : ℕ) (held waiting : List ℕ) (tally : TallyState) →
     Serves m from from actor held held waiting waiting tally tally
 serves_none m from actor held waiting tally = record {
   bodies = [];
@@ -55,17 +59,20 @@ frames_one : (replies : List (List ℕ)) (reply : List ℕ) → frames (replies 
 frames_one replies reply = frames-append replies (reply ∷ []) ∙ ap (λ z. frames replies ++ z) (append-nil (frame reply))
 
 -- replies are counted, and then more
-pub counted_append : (code : ℕ) (xs ys : List (List ℕ)) → counted code (xs ++ ys) ≡ counted code xs + counted code ys
-counted_append code xs ys = ap length (filter-append (begins_with code) xs ys) ∙ length-append (filter (begins_with code) xs) (filter (begins_with code) ys)
+counted_append : (rule : Option UpkeepRule) (xs ys : List (List ℕ)) → counted_by rule (xs ++ ys) ≡ counted_by rule xs + counted_by rule ys
+counted_append None xs ys = refl
+counted_append (Some rule) xs ys =
+    ap length (filter-append (begins_with_one_of rule.codes) xs ys)
+    ∙ length-append (filter (begins_with_one_of rule.codes) xs) (filter (begins_with_one_of rule.codes) ys)
 
-noted_more : (tally mid next : Tally) (xs ys : List (List ℕ)) → mid ≡ noted tally xs → next ≡ noted mid ys → next ≡ noted tally (xs ++ ys)
+noted_more : (tally mid next : TallyState) (xs ys : List (List ℕ)) → mid ≡ noted tally xs → next ≡ noted mid ys → next ≡ noted tally (xs ++ ys)
 noted_more tally mid next xs ys p q =
-    let sum : counted tally.code (xs ++ ys) ≡ counted tally.code xs + counted tally.code ys = counted_append tally.code xs ys in
-    let less : (tally.left - counted tally.code xs) - counted tally.code ys ≡ tally.left - counted tally.code (xs ++ ys) = omega (arith, sum) in
-    subst (λ t. next ≡ noted t ys) p q ∙ ap (λ n. record { code = tally.code; left = n }) less
+    let sum : counted_by tally.rule (xs ++ ys) ≡ counted_by tally.rule xs + counted_by tally.rule ys = counted_append tally.rule xs ys in
+    let all : (tally.count + counted_by tally.rule xs) + counted_by tally.rule ys ≡ tally.count + counted_by tally.rule (xs ++ ys) = omega (arith, sum) in
+    subst (λ t. next ≡ noted t ys) p q ∙ ap (λ n. record { rule = tally.rule; count = n; more = tally.more; backlog = tally.backlog }) all
 
 -- requests were answered, and then one more
-answered_body : {S : Type 0} (m : PlainMachine S) (mid to : S → Type 0) (actor : ℕ) (p q r : List ℕ) (k l n : Tally) (s : S) (bodies : List (List ℕ))
+answered_body : {S : Type 0} (m : PlainMachine S) (mid to : S → Type 0) (actor : ℕ) (p q r : List ℕ) (k l n : TallyState) (s : S) (bodies : List (List ℕ))
     (body : List ℕ) → Answered m mid actor p q k l bodies s → ((t : S) → mid t → Replied m to q r l n t (actor, body)) →
     Answered m to actor p r k n (bodies ++ body ∷ []) s
 answered_body m mid to actor p q r k l n s bodies body a one =
@@ -81,7 +88,7 @@ answered_body m mid to actor p q r k l n s bodies body a one =
       counts = noted_more k l n a.replies (b.reply ∷ []) a.counts b.counts;
     }
 
-pub serves_body : {S : Type 0} (m : PlainMachine S) (from mid to : S → Type 0) (actor : ℕ) (held between rest p q r body : List ℕ) (k l n : Tally)
+pub serves_body : {S : Type 0} (m : PlainMachine S) (from mid to : S → Type 0) (actor : ℕ) (held between rest p q r body : List ℕ) (k l n : TallyState)
     → Serves m from mid actor held between p q k l → IsBody body → between ≡ frame body ++ rest → ((s : S) → mid s → Replied m to q r l n s (actor, body))
     → Serves m from to actor held rest p r k n
 serves_body m from mid to actor held between rest p q r body k l n a fits is one = record {
@@ -98,6 +105,13 @@ fewer old new body left whole =
     let head : length (frame body) ≡ 4 + length body = length-frame body in
     let less : length new ≡ length (drop (4 + length body) old) = ap length left in
     omega (arith, long, head, less)
+
+-- and more waits when a reply was put behind it
+pub one_longer : (old new reply : List ℕ) → new ≡ old ++ frame reply → length old + 1 ≤ length new
+one_longer old new reply put =
+    let long : length new ≡ length old + length (frame reply) = ap length put ∙ length-append old (frame reply) in
+    let head : length (frame reply) ≡ 4 + length reply = length-frame reply in
+    omega (arith, long, head)
 
 -- where little waits and the next frame isn't too long, few bytes are held
 pub bounded_of : (long : Bool) (held waiting : List ℕ) → IsStopped long held waiting → long ≡ false → length waiting ≤ piece → length held ≤ longest_framed
@@ -116,26 +130,39 @@ still_long true held waiting other is s = s
 still_long false held waiting other is s = absurd (cc)
 
 -- all of a bytes was fed
-pub fed_all : {S : Type 0} (m : PlainMachine S) (from to : S → Type 0) (actor : ℕ) (held bytes fed rest p q : List ℕ) (k l : Tally) (n : ℕ) → fed ≡ held
+pub fed_all : {S : Type 0} (m : PlainMachine S) (from to : S → Type 0) (actor : ℕ) (held bytes fed rest p q : List ℕ) (k l : TallyState) (n : ℕ) → fed ≡ held
     ++ take n bytes → n ≡ min (length bytes) (1114116 - length held) → length held ≤ longest_framed → length bytes ≤ piece
     → Serves m from to actor fed rest p q k l → Serves m from to actor (held ++ bytes) rest p q k l
 fed_all m from to actor held bytes fed rest p q k l n is count few size a =
     subst (λ b. Serves m from to actor b rest p q k l) (is ∙ ap (λ z. held ++ z) (take_all n bytes (omega (arith, count, few, size)))) a
 
 -- no request was asked yet, one more, and all
-pub asked_none : {S : Type 0} (m : PlainMachine S) (from : S → Type 0) (s : S) → from s → Asked m from [] s
-asked_none m from s f = record { replies = []; state = s; answers = refl; stands = f }
+pub asked_none : {S : Type 0} (m : PlainMachine S) (from : S → Type 0) (full : List ℕ) (s : S) → from s → Asked m from [] full false s
+asked_none m from full s f = record { replies = []; state = s; answers = refl; stands = f; says = refl }
 
-pub asked_more : {S : Type 0} (m : PlainMachine S) (mid to : S → Type 0) (bodies more : List (List ℕ)) (s : S) → Asked m mid bodies s →
-    ((t : S) → mid t → Asked m to more t) → Asked m to (bodies ++ more) s
-asked_more m mid to bodies more s a one =
+-- the last reply is the last of more
+ends_later : (full reply : List ℕ) (replies more : List (List ℕ)) → ends_with full (replies ++ reply ∷ more) ≡ ends_with full (reply ∷ more)
+ends_later full reply [] more = refl
+ends_later full reply (x ∷ []) more = refl
+ends_later full reply (x ∷ y ∷ replies) more = ends_later full reply (y ∷ replies) more
+
+-- and one request has one reply
+says_last : {S : Type 0} (m : PlainMachine S) (s t : S) (event : Event) (full : List ℕ) (before replies : List (List ℕ)) (says : Bool) →
+    Answers m s (event ∷ []) replies t → says ≡ ends_with full replies → says ≡ ends_with full (before ++ replies)
+says_last m s t event full before [] says answers is = absurd answers
+says_last m s t event full before (reply ∷ more) says answers is = is ∙ sym (ends_later full reply before more)
+
+pub asked_more : {S : Type 0} (m : PlainMachine S) (mid to : S → Type 0) (bodies : List (List ℕ)) (body full : List ℕ) (first says : Bool) (s : S) →
+    Asked m mid bodies full first s → ((t : S) → mid t → Asked m to (body ∷ []) full says t) → Asked m to (bodies ++ body ∷ []) full says s
+asked_more m mid to bodies body full first says s a one =
     let b = one a.state a.stands in
     record {
       replies = a.replies ++ b.replies;
       state = b.state;
-      answers = subst (λ es. Answers m s es (a.replies ++ b.replies) b.state) (sym (map-append (λ z. (0, z)) bodies more))
-          (answers_append m s (asks 0 bodies) (asks 0 more) a.replies b.replies a.state b.state a.answers b.answers);
+      answers = subst (λ es. Answers m s es (a.replies ++ b.replies) b.state) (sym (map-append (λ z. (0, z)) bodies (body ∷ [])))
+          (answers_append m s (asks 0 bodies) (asks 0 (body ∷ [])) a.replies b.replies a.state b.state a.answers b.answers);
       stands = b.stands;
+      says = says_last m a.state b.state (0, body) full a.replies b.replies says b.answers b.says;
     }
 
 -- the requests up to this place, and the next
@@ -154,15 +181,23 @@ all_of requests place past =
     take_all place (map (λ r. r.now) requests) (omega (arith, past, many))
 
 -- one request was answered, or memory was wanting
-pub asked_ok : {S : Type 0} (m : PlainMachine S) (to : S → Type 0) (body : List ℕ) (s : S) → to (m.step s (0, body)) → Asked m to (body ∷ []) s
-asked_ok m to body s stepped = record { replies = m.reply s (0, body) ∷ []; state = m.step s (0, body); answers = inl (refl, refl); stands = stepped }
+pub asked_ok : {S : Type 0} (m : PlainMachine S) (to : S → Type 0) (body full : List ℕ) (says : Bool) (s : S) → to (m.step s (0, body)) →
+    says ≡ bytes_eq (m.reply s (0, body)) full → Asked m to (body ∷ []) full says s
+asked_ok m to body full says s stepped is = record {
+  replies = m.reply s (0, body) ∷ [];
+  state = m.step s (0, body);
+  answers = inl (refl, refl);
+  stands = stepped;
+  says = is;
+}
 
-pub asked_err : {S : Type 0} (m : PlainMachine S) (to : S → Type 0) (body : List ℕ) (s : S) → (m.is_sure (0, body) ≡ true → false ≡ true) → to s →
-    Asked m to (body ∷ []) s
-asked_err m to body s unsure same = record {
+pub asked_err : {S : Type 0} (m : PlainMachine S) (to : S → Type 0) (body full : List ℕ) (says : Bool) (s : S) → (m.is_sure (0, body) ≡ true → false ≡ true) →
+    to s → says ≡ bytes_eq no_memory full → Asked m to (body ∷ []) full says s
+asked_err m to body full says s unsure same is = record {
   replies = no_memory ∷ [];
   state = s;
   answers =
       inr (refl, false_from_ne_true (m.is_sure (0, body)) (λ e. let p : false ≡ true = unsure e in absurd (cc)), refl);
   stands = same;
+  says = is;
 }

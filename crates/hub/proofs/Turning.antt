@@ -7,7 +7,7 @@ use Rattle.hub.specs.Settlings.{PlainSettling}
 use Rattle.frame_cut.specs.Frames.{Cuts, IsLong}
 use Rattle.tardis_base.specs.Sizes.{piece}
 use Rattle.tardis_base.specs.Plain.{Event, Answers}
-use Rattle.hub.specs.declared.upkeeps.Tally.{Tally}
+use Rattle.hub.specs.Upkeeps.{TallyState}
 use Rattle.hub.specs.declared.ports.Ready.{Ready}
 use Rattle.hub.specs.declared.ports.Ready.TheVariants.{Accept, Read, Write, Close}
 use Rattle.hub.specs.declared.ports.Seen.{Seen}
@@ -35,7 +35,7 @@ answers_to w o t l events replies u v is same answers =
 
 -- bytes came of a connection, and requests were answered
 received_at : {S : Type 0} (w : PlainSettling S) (from to : S → Type 0) (old new : List (Option ConnectionState)) (slot room : ℕ) (came : List ℕ)
-    (l k : ConnectionState) (tally next : Tally) (before after : Option (List Seen)) (s : S) (turns : List Turn) (o : Option Talk)
+    (l k : ConnectionState) (tally next : TallyState) (before after : Option (List Seen)) (s : S) (turns : List Turn) (o : Option Talk)
     → talk slot turns ≡ o → Fits o (Some l) → connection_at new slot ≡ Some k → OthersStay slot old new → k.door ≡ l.door → length l.waiting ≤ piece
     → room ≡ piece → Serves (w.through l.door) from to (slot + 1) (l.cutter ++ came) k.cutter l.waiting k.waiting tally next → IsStopped k.long k.cutter k.waiting →
     Tells before after (ReadFrom slot room came ∷ [])
@@ -68,7 +68,7 @@ received_at w from to old new slot room came l k tally next before after s turns
     }
 
 pub received : {S : Type 0} (w : PlainSettling S) (from to : S → Type 0) (old new : List (Option ConnectionState)) (slot room : ℕ) (came : List ℕ)
-    (l k : ConnectionState) (tally next : Tally) (before after : Option (List Seen))
+    (l k : ConnectionState) (tally next : TallyState) (before after : Option (List Seen))
     → connection_at old slot ≡ Some l → connection_at new slot ≡ Some k → OthersStay slot old new → k.door ≡ l.door → length l.waiting ≤ piece
     → room ≡ piece → Serves (w.through l.door) from to (slot + 1) (l.cutter ++ came) k.cutter l.waiting k.waiting tally next → IsStopped k.long k.cutter k.waiting →
     Tells before after (ReadFrom slot room came ∷ [])
@@ -115,7 +115,7 @@ settled_at w from mid old s turns keeps settles = elim settles.same [
 
 -- a front of what waits was written to a connection, and requests were answered
 sent_at : {S : Type 0} (w : PlainSettling S) (mid to : S → Type 0) (old new : List (Option ConnectionState)) (slot offered count : ℕ) (l k : ConnectionState)
-    (tally next : Tally) (before after : Option (List Seen)) (s : S) (before_it : List Turn) (o : Option Talk) (settling : Settling w mid s old before_it)
+    (tally next : TallyState) (before after : Option (List Seen)) (s : S) (before_it : List Turn) (o : Option Talk) (settling : Settling w mid s old before_it)
     → talk slot settling.earlier ≡ o → Fits o (Some l) → connection_at new slot ≡ Some k → OthersStay slot old new → k.door ≡ l.door
     → offered ≡ length l.waiting → Serves (w.through l.door) mid to (slot + 1) l.cutter k.cutter (drop count l.waiting) k.waiting tally next →
     (IsStopped l.long l.cutter l.waiting → IsStopped k.long k.cutter k.waiting) → Tells before after (WroteTo slot offered (take count l.waiting) ∷ [])
@@ -162,7 +162,7 @@ sent_at w mid to old new slot offered count l k tally next before after s before
     }
 
 pub sent : {S : Type 0} (w : PlainSettling S) (from mid to : S → Type 0) (old new : List (Option ConnectionState)) (slot offered count : ℕ) (l k : ConnectionState)
-    (tally next : Tally) (before after : Option (List Seen)) → ((s : S) → from s → Settles w mid s)
+    (tally next : TallyState) (before after : Option (List Seen)) → ((s : S) → from s → Settles w mid s)
     → connection_at old slot ≡ Some l → connection_at new slot ≡ Some k → OthersStay slot old new → k.door ≡ l.door
     → offered ≡ length l.waiting → Serves (w.through l.door) mid to (slot + 1) l.cutter k.cutter (drop count l.waiting) k.waiting tally next →
     (IsStopped l.long l.cutter l.waiting → IsStopped k.long k.cutter k.waiting) → Tells before after (WroteTo slot offered (take count l.waiting) ∷ [])
@@ -180,7 +180,7 @@ waits_at (Some t) None f more = absurd more
 waits_at (Some t) (Some k) f more = subst (λ z. 0 < length z) (sym (waits_is t k.waiting f.given)) more
 
 -- a connection came into a free slot
-pub opened : {S : Type 0} (w : PlainSettling S) (from to : S → Type 0) (old new : List (Option ConnectionState)) (slot door : ℕ) (l : ConnectionState) (tally : Tally)
+pub opened : {S : Type 0} (w : PlainSettling S) (from to : S → Type 0) (old new : List (Option ConnectionState)) (slot door : ℕ) (l : ConnectionState) (tally : TallyState)
     (before after : Option (List Seen))
     → ((s : S) → from s → to s) → slot < slots → connection_at old slot ≡ None → connection_at new slot ≡ Some l → l ≡ record { door = door; cutter = []; waiting = []; long = false }
     → OthersStay slot old new → Tells before after (Accepted slot (Some door) ∷ [])
@@ -206,7 +206,7 @@ opened w from to old new slot door l tally before after same within was is fresh
     }
 
 -- none came after all
-pub missed : {S : Type 0} (w : PlainSettling S) (from to : S → Type 0) (old new : List (Option ConnectionState)) (slot : ℕ) (tally : Tally)
+pub missed : {S : Type 0} (w : PlainSettling S) (from to : S → Type 0) (old new : List (Option ConnectionState)) (slot : ℕ) (tally : TallyState)
     (before after : Option (List Seen))
     → ((s : S) → from s → to s) → new ≡ old → slot < slots → connection_at old slot ≡ None → Tells before after (Accepted slot None ∷ [])
     → GoesOn w from to old new Accept tally tally before after
@@ -229,7 +229,7 @@ missed w from to old new slot tally before after same unchanged within was tells
     }
 
 -- a connection was turned away
-pub turned_away : {S : Type 0} (w : PlainSettling S) (from to : S → Type 0) (old new : List (Option ConnectionState)) (slot : ℕ) (tally : Tally)
+pub turned_away : {S : Type 0} (w : PlainSettling S) (from to : S → Type 0) (old new : List (Option ConnectionState)) (slot : ℕ) (tally : TallyState)
     (before after : Option (List Seen))
     → ((s : S) → from s → to s) → new ≡ old → slot < slots → connection_at old slot ≡ None → Tells before after (Declined ∷ []) →
     GoesOn w from to old new Accept tally tally before after
@@ -252,7 +252,7 @@ turned_away w from to old new slot tally before after same unchanged within was 
     }
 
 -- nothing was to do
-pub rested : {S : Type 0} (w : PlainSettling S) (from to : S → Type 0) (old new : List (Option ConnectionState)) (offer : Ready) (tally : Tally)
+pub rested : {S : Type 0} (w : PlainSettling S) (from to : S → Type 0) (old new : List (Option ConnectionState)) (offer : Ready) (tally : TallyState)
     (before after : Option (List Seen))
     → ((s : S) → from s → to s) → ((n : ℕ) → connection_at new n ≡ connection_at old n) → after ≡ before →
     ((turns : List Turn) → ((n : ℕ) → Fits (talk n turns) (connection_at old n)) → MayRest turns offer)
@@ -279,7 +279,7 @@ some_of : (o : Option Talk) (l : ConnectionState) → Fits o (Some l) → IsSome
 some_of None l f = absurd f
 some_of (Some t) l f = refl
 
-pub ended : {S : Type 0} (w : PlainSettling S) (from to : S → Type 0) (old new : List (Option ConnectionState)) (slot : ℕ) (l : ConnectionState) (tally : Tally)
+pub ended : {S : Type 0} (w : PlainSettling S) (from to : S → Type 0) (old new : List (Option ConnectionState)) (slot : ℕ) (l : ConnectionState) (tally : TallyState)
     (before after : Option (List Seen))
     → ((s : S) → from s → to (w.machine.step s (slot + 1, close))) → connection_at old slot ≡ Some l → connection_at new slot ≡ None → OthersStay slot old new →
     Tells before after (Closed slot ∷ [])

@@ -1,7 +1,6 @@
 -- A run and the connections that it led to.
-use Rattle.std.specs.Prelude.{◌≡◌, ℕ, ◌<◌, ◌-◌, ◌++◌, List, [], ◌∷◌, length, Option, Some, None, ◌⊎◌}
+use Rattle.std.specs.Prelude.{◌≡◌, ℕ, ◌<◌, ◌++◌, List, [], ◌∷◌, length, Option, Some, None, ◌⊎◌}
 use Rattle.frame_cut.specs.Frames.{frames, Cuts}
-use Rattle.hub.specs.declared.upkeeps.Tally.{Tally}
 use Rattle.hub.specs.declared.ports.Ready.{Ready}
 use Rattle.hub.specs.declared.ports.Ready.TheVariants.{Write}
 use Rattle.hub.specs.declared.ports.Seen.{Seen}
@@ -10,9 +9,9 @@ use Rattle.hub.specs.Connections.{ConnectionState, connection_at, IsStopped}
 use Rattle.hub.specs.Settlings.{PlainSettling}
 use Rattle.hub.specs.Telling.{Tells}
 use Rattle.hub.specs.Talks.{Talk}
-use Rattle.hub.specs.Upkeeps.{UpkeepRule, noted}
+use Rattle.hub.specs.Upkeeps.{UpkeepRule, TallyState, noted}
 use Rattle.hub.specs.Turns.{Turn, Received, Sent, KeptUp, Settled, talk, calls_of, calls_in}
-use Rattle.hub.specs.Timing.{since, AreTimely}
+use Rattle.hub.specs.Timing.{unpaid, has_more, has_backlog, AreTimely}
 use Rattle.hub.specs.Runs.{Ran, AreServed, count_of}
 
 -- the connection of a talk has its door, and holds what came and wasn't asked yet, and what waits
@@ -37,7 +36,7 @@ pub record Keeps {S : Type 0} (w : PlainSettling S) (to : S → Type 0) (s : S) 
   pub fits : (n : ℕ) → Fits (talk n turns) (connection_at connections n)
 
 -- a turn of the edge, of which just the replies to connections are counted
-abbrev pub IsNoted : Tally → Tally → Turn → Type 0
+abbrev pub IsNoted : TallyState → TallyState → Turn → Type 0
 IsNoted tally next (Received slot room came bodies replies) = next ≡ noted tally replies
 IsNoted tally next (Sent slot offered wrote bodies replies) = next ≡ noted tally replies
 IsNoted tally next (KeptUp bodies replies) = ⊥
@@ -45,9 +44,10 @@ IsNoted tally next Settled = ⊥
 IsNoted tally next _ = next ≡ tally
 
 -- the tally after these turns
-abbrev pub IsTally : Option UpkeepRule → Tally → List Turn → Type 0
-IsTally None tally turns = Unit {0}
-IsTally (Some rule) tally turns = tally ≡ record { code = rule.code; left = rule.after - since rule.code turns }
+abbrev pub IsTally : Option UpkeepRule → TallyState → List Turn → Type 0
+IsTally None tally turns = tally.rule ≡ None
+IsTally (Some rule) tally turns =
+    tally ≡ record { rule = Some rule; count = unpaid rule turns; more = has_more rule.full turns; backlog = has_backlog rule.full turns }
 
 -- from s nothing was owed, or what was owed was settled; and the value stands for the state that was reached
 pub record Settles {S : Type 0} (w : PlainSettling S) (to : S → Type 0) (s : S) : Type 0 where
@@ -62,7 +62,7 @@ AreBefore turns earlier = (earlier ≡ turns) ⊎ (earlier ≡ Settled ∷ turns
 
 -- the run went on by one turn, of which this was told
 pub record WentOn {S : Type 0} (w : PlainSettling S) (to : S → Type 0) (s : S) (new : List (Option ConnectionState)) (turns : List Turn)
-    (tally next : Tally) (Told : Turn → Type 0) : Type 0 where
+    (tally next : TallyState) (Told : Turn → Type 0) : Type 0 where
   pub earlier : List Turn
   pub behind : AreBefore turns earlier
   pub turn : Turn
@@ -78,13 +78,13 @@ abbrev pub IsTold : (before after : Option (List Seen)) → Turn → Type 0
 IsTold before after turn = Tells before after (calls_of turn)
 
 -- whatever run led here, it goes on by one turn, once the offer was made
-abbrev pub GoesOn : {S : Type 0} → PlainSettling S → (from to : S → Type 0) → (old new : List (Option ConnectionState)) → Ready → (tally next : Tally)
+abbrev pub GoesOn : {S : Type 0} → PlainSettling S → (from to : S → Type 0) → (old new : List (Option ConnectionState)) → Ready → (tally next : TallyState)
     → (before after : Option (List Seen)) → Type 0
 GoesOn w from to old new offer tally next before after = (s : _) (turns : List Turn) → Keeps w from s old turns
     → WentOn w to s new turns tally next (IsToldBehind offer before after)
 
 -- whatever run led here, it went on by one turn
-abbrev pub Turned : {S : Type 0} → PlainSettling S → (from to : S → Type 0) → (old new : List (Option ConnectionState)) → (tally next : Tally)
+abbrev pub Turned : {S : Type 0} → PlainSettling S → (from to : S → Type 0) → (old new : List (Option ConnectionState)) → (tally next : TallyState)
     → (before after : Option (List Seen)) → Type 0
 Turned w from to old new tally next before after = (s : _) (turns : List Turn) → Keeps w from s old turns
     → WentOn w to s new turns tally next (IsTold before after)
@@ -100,7 +100,7 @@ IsUnsettled from to old before after =
     ((s : _) → from s → to s) × ((slot : ℕ) × (Waits (connection_at old slot) × Tells before after (Offered (Write slot) ∷ [])))
 
 -- from s so many turns led here, the edge told them, and upkeep was made whenever it was due
-pub record Led {S : Type 0} (w : PlainSettling S) (rule : Option UpkeepRule) (to : S → Type 0) (s : S) (connections : List (Option ConnectionState)) (tally : Tally)
+pub record Led {S : Type 0} (w : PlainSettling S) (rule : Option UpkeepRule) (to : S → Type 0) (s : S) (connections : List (Option ConnectionState)) (tally : TallyState)
     (before after : Option (List Seen)) (count : ℕ) : Type 0 where
   pub turns : List Turn
   pub keeps : Keeps w to s connections turns

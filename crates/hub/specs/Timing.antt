@@ -1,23 +1,40 @@
 -- When upkeep comes in a run.
-use Rattle.std.specs.Prelude.{◌≡◌, ℕ, ◌+◌, List, [], ◌∷◌, Option, Some, None, nat_le, if◌then◌else◌}
-use Rattle.hub.specs.Upkeeps.{UpkeepRule, counted}
-use Rattle.hub.specs.Turns.{Turn, Received, Sent, KeptUp}
+use Rattle.std.specs.Prelude.{◌≡◌, ℕ, ◌+◌, ◌-◌, ◌||◌, Bool, false, List, [], ◌∷◌, Option, Some, None, nat_le, if◌then◌else◌}
+use Rattle.hub.specs.Upkeeps.{UpkeepRule, counted, ends_with}
+use Rattle.hub.specs.Turns.{Turn, Received, Sent, KeptUp, Settled}
 
--- how many replies that begin with this byte were given to connections since the last upkeep, or since the run began
-abbrev pub since_after : ℕ → Turn → ℕ → ℕ
-since_after code (Received slot room came bodies replies) old = old + counted code replies
-since_after code (Sent slot offered wrote bodies replies) old = old + counted code replies
-since_after code (KeptUp bodies replies) old = 0
-since_after code _ old = old
+-- How many replies that count were given to connections and aren't paid off: an upkeep pays off `after` of them, or all where
+-- they are fewer.
+abbrev pub unpaid_after : UpkeepRule → Turn → ℕ → ℕ
+unpaid_after rule (Received slot room came bodies replies) old = old + counted rule.codes replies
+unpaid_after rule (Sent slot offered wrote bodies replies) old = old + counted rule.codes replies
+unpaid_after rule (KeptUp bodies replies) old = old - rule.after
+unpaid_after rule _ old = old
 
-abbrev pub since : ℕ → List Turn → ℕ
-since code [] = 0
-since code (turn ∷ older) = since_after code turn (since code older)
+abbrev pub unpaid : UpkeepRule → List Turn → ℕ
+unpaid rule [] = 0
+unpaid rule (turn ∷ older) = unpaid_after rule turn (unpaid rule older)
 
--- the requests that are due after these turns
+-- whether the newest upkeep says that there may be more to do: `full` is its last reply
+abbrev pub has_more_after : List ℕ → Turn → Bool → Bool
+has_more_after full (KeptUp bodies replies) old = ends_with full replies
+has_more_after full _ old = old
+
+abbrev pub has_more : List ℕ → List Turn → Bool
+has_more full [] = false
+has_more full (turn ∷ older) = has_more_after full turn (has_more full older)
+
+-- a backlog: that is so, and the edge had a turn since
+abbrev pub has_backlog : List ℕ → List Turn → Bool
+has_backlog full [] = false
+has_backlog full (KeptUp bodies replies ∷ older) = false
+has_backlog full (Settled ∷ older) = has_backlog full older
+has_backlog full (turn ∷ older) = has_more full older
+
+-- the requests that are due after these turns: where so many replies aren't paid off, or there is a backlog
 abbrev pub due : Option UpkeepRule → List Turn → Option (List (List ℕ))
 due None older = None
-due (Some rule) older = if nat_le rule.after (since rule.code older) then Some rule.requests else None
+due (Some rule) older = if nat_le rule.after (unpaid rule older) || has_backlog rule.full older then Some rule.requests else None
 
 -- Where requests are due the turn asks these, and where none are it is one of the edge.
 abbrev pub IsTimely : Option UpkeepRule → List Turn → Turn → Type 0

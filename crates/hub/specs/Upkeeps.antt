@@ -1,37 +1,70 @@
 -- Upkeep of a machine: requests that the hub asks itself, and the replies that count towards them.
-use Rattle.std.specs.Prelude.{ℕ, ◌-◌, ◌==◌, Bool, false, List, [], ◌∷◌, length, map, filter, Option, Some, None, if◌then◌else◌}
+use Rattle.std.specs.Prelude.{ℕ, ◌+◌, ◌-◌, ◌==◌, ◌||◌, Bool, false, List, [], ◌∷◌, length, map, filter, bytes_eq, nat_le, Option, Some, None, if◌then◌else◌}
+use Rattle.std.specs.List.{list_any}
 use Rattle.hub.specs.declared.upkeeps.Upkeep.{Upkeep}
-use Rattle.hub.specs.declared.upkeeps.Tally.{Tally}
 
--- these requests are asked each time that so many replies were given which begin with this byte
+-- These requests are asked for each so many replies that were given and begin with one of these bytes. Where the last of
+-- them is answered by `full`, there may be more to do.
 pub record UpkeepRule : Type 0 where
-  pub code : ℕ
+  pub codes : List ℕ
   pub after : ℕ
   pub requests : List (List ℕ)
+  pub full : List ℕ
 
--- what an upkeep says, without its requests as values of the program
+-- what an upkeep says, without its bytes as values of the program
 abbrev pub rule_of : Upkeep → UpkeepRule
-rule_of upkeep = record { code = upkeep.code; after = upkeep.after; requests = map (λ r. r.now) upkeep.requests.now }
+rule_of upkeep = record {
+  codes = upkeep.codes.now;
+  after = upkeep.after;
+  requests = map (λ r. r.now) upkeep.requests.now;
+  full = upkeep.full.now;
+}
 
-abbrev pub begins_with : ℕ → List ℕ → Bool
-begins_with code [] = false
-begins_with code (byte ∷ rest) = byte == code
+abbrev pub begins_with_one_of : List ℕ → List ℕ → Bool
+begins_with_one_of codes [] = false
+begins_with_one_of codes (byte ∷ rest) = list_any (λ code. code == byte) codes
 
--- how many of the replies begin with this byte
-abbrev pub counted : ℕ → List (List ℕ) → ℕ
-counted code replies = length (filter (begins_with code) replies)
+-- how many of the replies begin with one of these bytes
+abbrev pub counted : List ℕ → List (List ℕ) → ℕ
+counted codes replies = length (filter (begins_with_one_of codes) replies)
 
--- What a hub keeps of it: how many such replies are still to be given. At first it is all of them, and nothing is looked
--- at where there is no rule.
-abbrev pub whole_tally : Option UpkeepRule → Tally
-whole_tally None = record { code = 0; left = 0 }
-whole_tally (Some rule) = record { code = rule.code; left = rule.after }
+-- whether the last of the replies is this one
+abbrev pub ends_with : List ℕ → List (List ℕ) → Bool
+ends_with full [] = false
+ends_with full (reply ∷ []) = bytes_eq reply full
+ends_with full (reply ∷ next ∷ replies) = ends_with full (next ∷ replies)
+
+-- What a hub keeps of it: how many replies that count aren't paid off by an upkeep; whether the newest upkeep says that there
+-- may be more to do; and whether the edge had a turn since then.
+pub record TallyState : Type 0 where
+  pub rule : Option UpkeepRule
+  pub count : ℕ
+  pub more : Bool
+  pub backlog : Bool
+
+abbrev pub first_tally : Option UpkeepRule → TallyState
+first_tally rule = record { rule = rule; count = 0; more = false; backlog = false }
+
+abbrev pub counted_by : Option UpkeepRule → List (List ℕ) → ℕ
+counted_by None replies = 0
+counted_by (Some rule) replies = counted rule.codes replies
 
 -- these replies were given
-abbrev pub noted : Tally → List (List ℕ) → Tally
-noted tally replies = record { code = tally.code; left = tally.left - counted tally.code replies }
+abbrev pub noted : TallyState → List (List ℕ) → TallyState
+noted tally replies = record { rule = tally.rule; count = tally.count + counted_by tally.rule replies; more = tally.more; backlog = tally.backlog }
 
--- the requests that are due by a tally
-abbrev pub due_by : Tally → Option UpkeepRule → Option (List (List ℕ))
-due_by tally None = None
-due_by tally (Some rule) = if tally.left == 0 then Some rule.requests else None
+-- the edge had a turn
+abbrev pub passed : TallyState → TallyState
+passed tally = record { rule = tally.rule; count = tally.count; more = tally.more; backlog = tally.more }
+
+-- an upkeep paid off so many of them, and says whether there may be more to do
+abbrev pub paid : TallyState → (after : ℕ) → (more : Bool) → TallyState
+paid tally after more = record { rule = tally.rule; count = tally.count - after; more = more; backlog = false }
+
+abbrev pub due_under : Option UpkeepRule → (count : ℕ) → (backlog : Bool) → Option UpkeepRule
+due_under None count backlog = None
+due_under (Some rule) count backlog = if nat_le rule.after count || backlog then Some rule else None
+
+-- the upkeep that is due by a tally
+abbrev pub due_by : TallyState → Option UpkeepRule
+due_by tally = due_under tally.rule tally.count tally.backlog

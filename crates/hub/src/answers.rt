@@ -1,6 +1,6 @@
 //! The answers to what came of one connection.
 
-ghost use Rattle.std.specs.Prelude.{◌≡◌, ◌≤◌, ◌++◌, true, [], ◌∷◌, length};
+ghost use Rattle.std.specs.Prelude.{◌≡◌, ◌≤◌, ◌+◌, ◌++◌, true, [], ◌∷◌, length};
 ghost use Rattle.tardis_base.specs.Sizes.{longest_frame, piece};
 ghost use Rattle.frame_cut.specs.Frames.{frame};
 ghost use Rattle.hub.specs.Upkeeps.{noted};
@@ -26,8 +26,9 @@ pub(crate) fn answer_held<M: Settling>(
     cutter: &mut FrameCutter,
     waiting: &mut Waiting,
     reply: &mut ReplyBuf,
-    tally: &mut Tally,
+    tally: &mut Tally<'_>,
 ) -> bool
+    requires counts { tally.old.count ≤ 4294967295 + length waiting.old }
     ensures served { Serves (M.through door) (M.stands machine.old) (M.stands machine.new) actor cutter.old cutter.new waiting.old waiting.new tally.old tally.new }
     ensures stopped { IsStopped result cutter.new waiting.new }
     ensures opening { M.opening machine.new ≡ M.opening machine.old }
@@ -50,11 +51,13 @@ pub(crate) fn answer_body<M: Settling>(
     body: &[u8],
     waiting: &mut Waiting,
     reply: &mut ReplyBuf,
-    tally: &mut Tally,
+    tally: &mut Tally<'_>,
 )
     requires few { length waiting.old ≤ piece }
+    requires counts { tally.old.count ≤ 4294967295 + length waiting.old }
     ensures answered { (s : M.Plain) → M.stands machine.old s → Replied (M.through door) (M.stands machine.new) waiting.old waiting.new tally.old tally.new s
         (actor, body.now) }
+    ensures counts { tally.new.count ≤ 4294967295 + length waiting.new }
     ensures opening { M.opening machine.new ≡ M.opening machine.old }
 {
     match machine.act_through(door, actor, body, reply) {
@@ -64,11 +67,13 @@ pub(crate) fn answer_body<M: Settling>(
 }
 
 /// Puts a reply behind what waits, and counts it.
-fn put_reply(reply: &[u8], waiting: &mut Waiting, tally: &mut Tally)
+fn put_reply(reply: &[u8], waiting: &mut Waiting, tally: &mut Tally<'_>)
     requires few { length waiting.old ≤ piece }
     requires reply { length reply.now ≤ longest_frame }
+    requires counts { tally.old.count ≤ 4294967295 + length waiting.old }
     ensures put { waiting.new ≡ waiting.old ++ frame reply.now }
     ensures counted { tally.new ≡ noted tally.old (reply.now ∷ []) }
+    ensures counts { tally.new.count ≤ 4294967295 + length waiting.new }
 {
     waiting.put(reply);
     tally.note(reply);

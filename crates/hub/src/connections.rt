@@ -85,11 +85,12 @@ impl Connection {
         actor: u16,
         bytes: &[u8],
         reply: &mut ReplyBuf,
-        tally: &mut Tally,
+        tally: &mut Tally<'_>,
     )
         requires short { self.old.long ≡ false }
         requires few { length self.old.waiting ≤ piece }
         requires size { length bytes.now ≤ piece }
+        requires counts { tally.old.count ≤ 4294967295 }
         ensures served { Serves (M.through self.old.door) (M.stands machine.old) (M.stands machine.new) actor
             (self.old.cutter ++ bytes.now) self.new.cutter self.old.waiting self.new.waiting tally.old tally.new }
         ensures stopped { IsStopped self.new.long self.new.cutter self.new.waiting }
@@ -115,9 +116,10 @@ impl Connection {
         actor: u16,
         count: usize,
         reply: &mut ReplyBuf,
-        tally: &mut Tally,
+        tally: &mut Tally<'_>,
     )
         requires count { count ≤ length self.old.waiting }
+        requires counts { tally.old.count ≤ 4294967295 }
         ensures served { Serves (M.through self.old.door) (M.stands machine.old) (M.stands machine.new) actor
             self.old.cutter self.new.cutter (drop count self.old.waiting) self.new.waiting tally.old tally.new }
         ensures stopped { IsStopped self.old.long self.old.cutter self.old.waiting → IsStopped self.new.long self.new.cutter self.new.waiting }

@@ -39,8 +39,8 @@ pub enum End {
 /// an edge that offers all reads before the writes has one settling for them all. Where settling fails the hub ends at once,
 /// and writes nothing more to anybody. Settling isn't counted as a turn.
 ///
-/// An upkeep is made between two turns, as soon as it is due, and counts as a turn. Where it is due when the edge would say
-/// stop, it is made before that is asked.
+/// An upkeep is made between two turns, as soon as it is due, and counts as a turn; `Upkeep` says when. Where it is due when
+/// the edge would say stop, it is made before that is asked.
 ///
 /// A turn's cost doesn't grow with the connections, but for a search of the slots when one comes. The buffers of the hub
 /// are taken first; without memory for them nothing is done. A connection's are taken when it comes, and one for which
@@ -94,17 +94,17 @@ fn serve_connections<M: Settling, P: Ports>(
     ensures unsettled { result ≡ End.Unsettled → 0 < M.faults machine.new }
     ensures opening { M.opening machine.new ≡ M.opening machine.old }
 {
-    let mut tally = Tally::whole(upkeep);
+    let mut tally = Tally::new(upkeep);
     let mut turns: u64 = 0;
     while turns < u64::MAX {
         turns += 1;
-        match tally.due(upkeep) {
-            Some(requests) => {
-                keep_up(machine, requests, reply);
-                tally = Tally::whole(upkeep);
+        match tally.due() {
+            Some(upkeep) => {
+                let more = keep_up(machine, upkeep, reply);
+                tally.pay(upkeep.after, more);
             }
             None => match turn(alloc, machine, connections, ports, buf, reply, &mut tally) {
-                Outcome::On => {}
+                Outcome::On => tally.pass(),
                 Outcome::Stopped => return End::Stopped,
                 Outcome::Unsettled => return End::Unsettled,
             },

@@ -1,6 +1,6 @@
 //! The turns of a hub: what is done of what the edge offers.
 
-ghost use Rattle.std.specs.Prelude.{◌≡◌, ◌<◌, ℕ, ◌+◌, true, false, [], ◌∷◌, length, OnOk, OnErr};
+ghost use Rattle.std.specs.Prelude.{◌≡◌, ◌<◌, ◌≤◌, ℕ, ◌+◌, true, false, [], ◌∷◌, length, OnOk, OnErr};
 ghost use Rattle.tardis_base.specs.Sizes.{piece};
 ghost use Rattle.hub.specs.Connections.{connection_at, slots};
 ghost use Rattle.hub.specs.Runs.{close};
@@ -8,7 +8,7 @@ ghost use Rattle.hub.specs.Telling.{Tells};
 ghost use Rattle.hub.specs.Settlings.{behind_doors};
 ghost use Rattle.hub.specs.Keeping.{Settles, GoesOn, Turned, IsUnsettled, Waits};
 ghost use Rattle.hub.specs.declared.ports.Seen.{Seen};
-ghost use Rattle.hub.specs.declared.upkeeps.Tally.{Tally};
+ghost use Rattle.hub.specs.Upkeeps.{TallyState};
 
 use crate::answers::close_session;
 use crate::connections::{Connection, Room, free_slot, put_connection, take_connection};
@@ -30,7 +30,7 @@ fn enter<M: Settling, P: Ports>(
     ports: &mut P,
 )
     requires slots { length connections.old ≡ slots }
-    ensures turned { (tally : Tally) → GoesOn (behind_doors M.plain M.through M.is_settled M.settled) (M.stands machine.old) (M.stands machine.new) connections.old connections.new Ready.Accept tally tally
+    ensures turned { (tally : TallyState) → GoesOn (behind_doors M.plain M.through M.is_settled M.settled) (M.stands machine.old) (M.stands machine.new) connections.old connections.new Ready.Accept tally tally
         (P.seen ports.old) (P.seen ports.new) }
     ensures slots { length connections.new ≡ length connections.old }
     ensures opening { M.opening machine.new ≡ M.opening machine.old }
@@ -55,10 +55,11 @@ fn hear<M: Settling, P: Ports>(
     slot: usize,
     buf: &mut [u8],
     reply: &mut ReplyBuf,
-    tally: &mut Tally,
+    tally: &mut Tally<'_>,
 )
     requires slots { length connections.old ≡ slots }
     requires room { length buf.old ≡ piece }
+    requires counts { tally.old.count ≤ 4294967295 }
     ensures turned { GoesOn (behind_doors M.plain M.through M.is_settled M.settled) (M.stands machine.old) (M.stands machine.new) connections.old connections.new (Ready.Read slot) tally.old tally.new
         (P.seen ports.old) (P.seen ports.new) }
     ensures slots { length connections.new ≡ length connections.old }
@@ -101,9 +102,10 @@ fn tell<M: Settling, P: Ports>(
     ports: &mut P,
     slot: usize,
     reply: &mut ReplyBuf,
-    tally: &mut Tally,
+    tally: &mut Tally<'_>,
 ) -> bool
     requires slots { length connections.old ≡ slots }
+    requires counts { tally.old.count ≤ 4294967295 }
     ensures turned { result ≡ true → GoesOn (behind_doors M.plain M.through M.is_settled M.settled) (M.stands machine.old) (M.stands machine.new)
         connections.old connections.new (Ready.Write slot) tally.old tally.new (P.seen ports.old) (P.seen ports.new) }
     ensures unsettled { result ≡ false → ((s : M.Plain) → M.stands machine.old s → M.stands machine.new s)
@@ -146,7 +148,7 @@ fn leave<M: Settling, P: Ports>(
 )
     requires slots { length connections.old ≡ slots }
     requires sure { (n : ℕ) → n < slots → M.plain.is_sure (n + 1, close) ≡ true }
-    ensures turned { (tally : Tally) → GoesOn (behind_doors M.plain M.through M.is_settled M.settled) (M.stands machine.old) (M.stands machine.new) connections.old connections.new (Ready.Close slot) tally tally
+    ensures turned { (tally : TallyState) → GoesOn (behind_doors M.plain M.through M.is_settled M.settled) (M.stands machine.old) (M.stands machine.new) connections.old connections.new (Ready.Close slot) tally tally
         (P.seen ports.old) (P.seen ports.new) }
     ensures slots { length connections.new ≡ length connections.old }
     ensures opening { M.opening machine.new ≡ M.opening machine.old }
@@ -178,11 +180,12 @@ pub(crate) fn turn<M: Settling, P: Ports>(
     ports: &mut P,
     buf: &mut [u8],
     reply: &mut ReplyBuf,
-    tally: &mut Tally,
+    tally: &mut Tally<'_>,
 ) -> Outcome
     requires slots { length connections.old ≡ slots }
     requires room { length buf.old ≡ piece }
     requires sure { (n : ℕ) → n < slots → M.plain.is_sure (n + 1, close) ≡ true }
+    requires counts { tally.old.count ≤ 4294967295 }
     ensures turned { result ≡ Outcome.On → Turned (behind_doors M.plain M.through M.is_settled M.settled) (M.stands machine.old) (M.stands machine.new)
         connections.old connections.new tally.old tally.new (P.seen ports.old) (P.seen ports.new) }
     ensures stopped { result ≡ Outcome.Stopped → (machine.new ≡ machine.old) × (connections.new ≡ connections.old) × (tally.new ≡ tally.old)

@@ -1,14 +1,15 @@
-//! A hub over a machine that settles what it answered, until it can't.
+//! A hub over a machine that settles what it answered, until it can't; and over one whose upkeep goes in slices.
 
-ghost use Rattle.std.specs.Prelude.{◌≡◌, Bool, false, refl};
+ghost use Rattle.std.specs.Prelude.{◌≡◌, ℕ, Bool, false, refl};
 ghost use Rattle.std.proofs.Common.{inl};
+ghost use Rattle.site_tests.specs.Owing.{first_byte};
 
-use crate::talks::copied;
-use hub::{End, MemoryPorts, Move, Seen, serve};
-use rest_machine::Settling;
+use crate::talks::{copied, put_frame};
+use hub::{End, MemoryPorts, Move, Seen, Upkeep, serve};
+use rest_machine::{InMemory, Settling};
 use std::alloc::Global;
 use std::process::Abort;
-use tardis_base::{ByteList, NoMemory, ReplyBuf};
+use tardis_base::{ByteList, Machine, NoMemory, ReplyBuf};
 use tardis_io::Failed;
 
 /// Replies one byte to each request, and owes that it is settled. It settles twice, and then fails.
@@ -233,4 +234,107 @@ fn what_a_door_doesnt_let_in_is_answered_there(rt: HostRuntime) {
     assert!(rt; is_told(ports.seen().expect(&rt, "memory"), 0, 7));
     assert!(rt; is_told(ports.seen().expect(&rt, "memory"), 1, 9));
     drop(ports);
+}
+
+/// So many slices are left of an upkeep, which goes in slices, and so many upkeeps were made. It replies to each connection the
+/// first byte of what that asked.
+#[derive(Drop)]
+struct Slicing {
+    left: u8,
+    made: u16,
+}
+
+impl Machine for Slicing {
+    ghost use Rattle.site_tests.specs.Owing.{slicing};
+
+    ghost Plain = { ℕ };
+
+    ghost plain = { slicing };
+
+    ghost stands = { λ m s. m.left ≡ s };
+
+    ghost opening = { λ m. 0 };
+
+    fn act(&mut self, actor: u16, request: &[u8], out: &mut ReplyBuf) -> Result<(), NoMemory> {
+        out.clear();
+        if actor != 0 {
+            out.push_byte(first_of(request));
+            return Ok(());
+        }
+        self.made = self.made.saturating_add(1);
+        if self.left == 0 {
+            out.push_byte(0);
+        } else {
+            out.push_byte(1);
+            self.left -= 1;
+        }
+        Ok(())
+    }
+}
+
+fn first_of(request: &[u8]) -> u8
+    ensures { result ≡ first_byte request.now }
+{
+    match request {
+        [first, ..] => *first,
+        [] => 0,
+    }
+}
+
+/// A connection comes, and then these reads: each brings so many requests which are replied with this byte.
+fn reads_of(rt: &impl Abort, alloc: Global, reads: &[(u8, u16)]) -> MemoryPorts {
+    let mut moves = Vec::new(alloc);
+    moves
+        .push(Move::Accept { comes: Some(0) })
+        .expect(rt, "room");
+    for (code, count) in reads {
+        let mut bytes = Vec::new(alloc);
+        for _ in 0..*count {
+            put_frame(rt, &mut bytes, &[*code], b"");
+        }
+        let bytes = ByteList::from_vec(bytes);
+        moves.push(Move::Read { slot: 0, bytes }).expect(rt, "room");
+    }
+    MemoryPorts::new(alloc, moves)
+}
+
+/// How many upkeeps come of these reads, where so many slices are left at first.
+fn upkeeps_of(rt: &impl Abort, alloc: Global, left: u8, reads: &[(u8, u16)]) -> u16 {
+    let upkeep = Upkeep {
+        codes: &[8, 17],
+        after: 64,
+        requests: &[&[15]],
+        full: &[1],
+    };
+    let machine = Slicing { left, made: 0 };
+    let mut machine = InMemory { machine };
+    let mut ports = reads_of(rt, alloc, reads);
+    let end = serve(alloc, &mut machine, &mut ports, Some(upkeep)).expect(rt, "memory");
+    assert!(rt; end == End::Stopped);
+    drop(ports);
+    machine.machine.made
+}
+
+#[test]
+fn upkeep_is_made_as_often_as_it_is_due(rt: HostRuntime) {
+    let rows: [(u8, &[(u8, u16)], u16); 12] = [
+        (0, &[(8, 63)], 0),
+        (0, &[(8, 64)], 1),
+        // another reply counts as well, and a third doesn't
+        (0, &[(8, 40), (17, 24)], 1),
+        (0, &[(7, 64), (8, 63)], 0),
+        // as many as were counted, before the edge is asked again, and what remains stays counted
+        (0, &[(8, 130)], 2),
+        (0, &[(8, 130), (8, 61)], 2),
+        (0, &[(8, 130), (17, 62)], 3),
+        (0, &[(8, 1500)], 23),
+        // a backlog goes by a slice after each turn, until there is none
+        (3, &[(8, 64)], 1),
+        (3, &[(8, 64), (7, 1)], 2),
+        (3, &[(8, 64), (7, 1), (7, 0), (7, 1)], 4),
+        (3, &[(8, 64), (7, 1), (7, 1), (7, 0), (7, 1)], 4),
+    ];
+    for (left, reads, upkeeps) in rows {
+        assert!(rt; upkeeps_of(&rt, rt.alloc(), left, reads) == upkeeps);
+    }
 }

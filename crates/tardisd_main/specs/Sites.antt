@@ -1,7 +1,8 @@
 -- What is served from a site.
 use Rattle.std.specs.Prelude.{Bool, true, false, List, [], ◌∷◌, Option, Some, None}
 use Rattle.tardis_base.specs.declared.requests.Request.TheVariants.{RaiseAuto, Tidy}
-use Rattle.wire_talk.specs.Spellings.{request_spelling}
+use Rattle.tardis_base.specs.declared.replies.Reply.TheVariants.{Tidied}
+use Rattle.wire_talk.specs.Spellings.{request_spelling, reply_spelling}
 use Rattle.command_words.specs.declared.commands.Place.{Place}
 use Rattle.command_words.specs.Places.{program_limits}
 use Rattle.hub.specs.declared.ports.Seen.{Seen}
@@ -15,11 +16,16 @@ use Rattle.plain_site.specs.Step.{site_machine}
 use Rattle.plain_site.specs.Sound.{IsSound}
 use Rattle.site_doors.specs.Rules.{site_doors}
 
--- With `--tidy`, each time that 64 replies told of a commit, the floor is raised and then up to 64 states are collected. 8 is
--- the first byte of a reply Committed.
+-- With `--tidy`, for each 64 replies that told of a commit or a delivery, the floor is raised and then up to 64 states are
+-- collected; and again in the next turn where as many were. 8 is the first byte of a reply Committed, 17 that of Applied.
 abbrev pub upkeep_rule : Bool → Option UpkeepRule
 upkeep_rule false = None
-upkeep_rule true = Some record { code = 8; after = 64; requests = request_spelling RaiseAuto ∷ request_spelling (Tidy 64) ∷ [] }
+upkeep_rule true = Some record {
+  codes = 8 ∷ 17 ∷ [];
+  after = 64;
+  requests = request_spelling RaiseAuto ∷ request_spelling (Tidy 64) ∷ [];
+  full = reply_spelling (Tidied 64);
+}
 
 -- the site in memory behind its doors: it owes nothing, and settling leaves it as it is
 abbrev pub asked_site : PlainSettling Site

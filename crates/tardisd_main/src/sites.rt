@@ -23,10 +23,17 @@ const RAISE_AUTO: [u8; 1] = [request_codes::RAISE_AUTO];
 /// The request Tidy, for 64 states.
 const TIDY: [u8; 3] = [request_codes::TIDY, 0, 64];
 
+/// The first bytes of the replies that count: Committed and Applied.
+const COUNTED: [u8; 2] = [reply_codes::COMMITTED, reply_codes::APPLIED];
+
+/// The reply Tidied, of 64 states.
+const FULL: [u8; 5] = [reply_codes::TIDIED, 0, 0, 0, 64];
+
 /// Serves the connections of an edge as the site at this place, which opens with the root alone: each connection is an
 /// actor, and its requests and questions are answered at its door, as `hub::serve` says. Keys are found by hashing with
-/// this seed. With `tidy` the floor is raised and up to 64 closed states are collected, as actor 0 would ask it, each time
-/// that 64 states were committed. Without memory for the site or the buffers nothing is done.
+/// this seed. With `tidy` the floor is raised and up to 64 closed states are collected, as actor 0 would ask it, for each 64
+/// states that were committed or delivered; and where as many were collected, once more after the next turn of the edge.
+/// Without memory for the site or the buffers nothing is done.
 pub fn serve_place<P: Ports>(
     alloc: Global,
     keys: RandomState,
@@ -71,9 +78,10 @@ pub(crate) fn upkeep_of(tidy: bool) -> Option<Upkeep<'static>>
 {
     if tidy {
         Some(Upkeep {
-            code: reply_codes::COMMITTED,
+            codes: &COUNTED,
             after: 64,
             requests: &[&RAISE_AUTO, &TIDY],
+            full: &FULL,
         })
     } else {
         None

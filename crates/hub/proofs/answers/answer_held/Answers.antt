@@ -21,5 +21,6 @@ loop-cutter-preserved g c =
           c.in-Frame.body.now c.args.tally.now c.loop-cutter.tally c.answer_body.new.tally
           c.loop-cutter.invariant.served c.in-Frame.ensures.cut.0
           (subst (λ r. c.loop-cutter.cutter ≡ frame c.in-Frame.body.now ++ r) (sym left) c.in-Frame.ensures.cut.1) c.answer_body.ensures.answered;
+      counts = c.answer_body.ensures.counts;
       opening = c.answer_body.ensures.opening ∙ c.loop-cutter.invariant.opening;
     }

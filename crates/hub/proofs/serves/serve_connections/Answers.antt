@@ -1,4 +1,4 @@
-use Rattle.std.proofs.Common.{refl, sym, subst, ◌∙◌, arith, map, rules}
+use Rattle.std.proofs.Common.{refl, sym, subst, ◌∙◌, arith, rules}
 use Rattle.std.specs.Option.{option_map}
 use Rattle.hub.specs.declared.serves.End.TheVariants.{Stopped}
 use Rattle.hub.specs.Settlings.{behind_doors}
@@ -10,7 +10,7 @@ use Rattle.hub.proofs.serves.serve_connections.Goals as goal
 pub loop-turns-init : goal.loop-turns-init
 loop-turns-init g c = record {
   led = λ s stands. led_start (behind_doors g.M.Settling.plain g.M.Settling.through g.M.Settling.is_settled g.M.Settling.settled) (option_map rule_of c.args.upkeep) (g.M.Settling.stands c.args.machine.now) s c.args.connections.now
-      c.whole-tally.result (g.P.Ports.seen c.args.ports.now) stands c.requires.free c.whole-tally.ensures;
+      c.new-tally.result (g.P.Ports.seen c.args.ports.now) stands c.requires.free c.new-tally.ensures;
   slots = c.requires.slots;
   room = c.requires.room;
   opening = refl;
@@ -19,20 +19,20 @@ loop-turns-init g c = record {
 pub loop-turns-preserved-in-Some : goal.loop-turns-preserved-in-Some
 loop-turns-preserved-in-Some g c = record {
   led = λ s stands. led_kept (behind_doors g.M.Settling.plain g.M.Settling.through g.M.Settling.is_settled g.M.Settling.settled) (option_map rule_of c.args.upkeep) (g.M.Settling.stands c.loop-turns.machine)
-      (g.M.Settling.stands c.keep_up.new.machine) s c.loop-turns.connections c.loop-turns.tally c.whole-tally-in-Some.result
-      (g.P.Ports.seen c.args.ports.now) (g.P.Ports.seen c.loop-turns.ports) c.loop-turns.turns (map (λ r. r.now) c.in-Some.requests.now)
-      (c.loop-turns.invariant.led s stands) (sym c.in-Some.ensures) c.whole-tally-in-Some.ensures c.keep_up.ensures.asked;
+      (g.M.Settling.stands c.keep_up-more.new.machine) s c.loop-turns.connections c.loop-turns.tally c.pay.new.self
+      (g.P.Ports.seen c.args.ports.now) (g.P.Ports.seen c.loop-turns.ports) c.loop-turns.turns (rule_of c.in-Some.upkeep) c.keep_up-more.result
+      (c.loop-turns.invariant.led s stands) (sym c.in-Some.ensures.due) c.pay.ensures c.keep_up-more.ensures.asked;
   slots = c.loop-turns.invariant.slots;
   room = c.loop-turns.invariant.room;
-  opening = c.keep_up.ensures.opening ∙ c.loop-turns.invariant.opening;
+  opening = c.keep_up-more.ensures.opening ∙ c.loop-turns.invariant.opening;
 }
 
 pub loop-turns-preserved : goal.loop-turns-preserved
 loop-turns-preserved g c = record {
   led = λ s stands. led_more (behind_doors g.M.Settling.plain g.M.Settling.through g.M.Settling.is_settled g.M.Settling.settled) (option_map rule_of c.args.upkeep) (g.M.Settling.stands c.loop-turns.machine)
-      (g.M.Settling.stands c.turn.new.machine) s c.loop-turns.connections c.turn.new.connections c.loop-turns.tally c.turn.new.tally
+      (g.M.Settling.stands c.turn.new.machine) s c.loop-turns.connections c.turn.new.connections c.loop-turns.tally c.turn.new.tally c.pass.new.self
       (g.P.Ports.seen c.args.ports.now) (g.P.Ports.seen c.loop-turns.ports) (g.P.Ports.seen c.turn.new.ports) c.loop-turns.turns
-      (c.loop-turns.invariant.led s stands) (sym c.in-None.ensures) (c.turn.ensures.turned (search rules));
+      (c.loop-turns.invariant.led s stands) (sym c.in-None.ensures.due) (c.turn.ensures.turned (search rules)) c.pass.ensures;
   slots = c.turn.ensures.slots ∙ c.loop-turns.invariant.slots;
   room = c.turn.ensures.room ∙ c.loop-turns.invariant.room;
   opening = c.turn.ensures.opening ∙ c.loop-turns.invariant.opening;
@@ -48,14 +48,14 @@ returns-in-Stopped-clause-served g c = λ s stands.
     c.loop-turns.tally
     (g.P.Ports.seen c.args.ports.now) (g.P.Ports.seen c.loop-turns.ports) (g.P.Ports.seen c.turn.new.ports) c.loop-turns.turns
     (c.loop-turns.invariant.led s stands)
-    (sym {b = due_by c.loop-turns.tally (option_map rule_of c.args.upkeep)} c.in-None.ensures) (search rules))
+    (sym {b = due_by c.loop-turns.tally} c.in-None.ensures.due) (search rules))
 
 pub returns-in-Unsettled-clause-served : goal.returns-in-Unsettled-clause-served
 returns-in-Unsettled-clause-served g c = λ s stands.
     run_unsettled (behind_doors g.M.Settling.plain g.M.Settling.through g.M.Settling.is_settled g.M.Settling.settled) (option_map rule_of c.args.upkeep) (g.M.Settling.stands c.loop-turns.machine)
     (g.M.Settling.stands c.turn.new.machine) s c.loop-turns.connections c.loop-turns.tally (g.P.Ports.seen c.args.ports.now) (g.P.Ports.seen c.loop-turns.ports)
     (g.P.Ports.seen c.turn.new.ports) c.loop-turns.turns (c.loop-turns.invariant.led s stands)
-    (sym {b = due_by c.loop-turns.tally (option_map rule_of c.args.upkeep)} c.in-None.ensures) (c.turn.ensures.unsettled (search rules))
+    (sym {b = due_by c.loop-turns.tally} c.in-None.ensures.due) (c.turn.ensures.unsettled (search rules))
 
 pub returns-clause-served : goal.returns-clause-served
 returns-clause-served g c = λ s stands.

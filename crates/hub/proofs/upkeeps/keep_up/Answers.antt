@@ -1,28 +1,29 @@
-use Rattle.std.proofs.Common.{◌∙◌, [], ◌∷◌, map, take, get_or, refl, subst, sym}
+use Rattle.std.proofs.Common.{◌∙◌, [], map, take, get_or, refl, subst, sym}
 use Rattle.hub.specs.Answering.{Asked}
 use Rattle.hub.proofs.Serving.{asked_none, asked_more, one_more, all_of}
 use Rattle.hub.proofs.upkeeps.keep_up.Goals as goal
 
 pub loop-request-init : goal.loop-request-init
-loop-request-init g c = record { asked = λ s f. asked_none g.M.Settling.plain (g.M.Settling.stands c.args.machine.now) s f; opening = refl }
+loop-request-init g c = record { asked = λ s f. asked_none g.M.Settling.plain (g.M.Settling.stands c.args.machine.now) c.args.upkeep.full.now s f; opening = refl }
 
 pub loop-request-preserved : goal.loop-request-preserved
 loop-request-preserved g c =
-    let requests = c.args.requests.now in
+    let requests = c.args.upkeep.requests.now in
     let place = c.loop-request.request-index in
     record {
-      asked = λ s f. subst (λ bodies. Asked g.M.Settling.plain (g.M.Settling.stands c.ask.new.machine) bodies s)
+      asked = λ s f. subst (λ bodies. Asked g.M.Settling.plain (g.M.Settling.stands c.ask-more.new.machine) bodies c.args.upkeep.full.now c.ask-more.result s)
           (sym (one_more requests place record { ref_ptr = (0, 0); now = [] } c.loop-request-test.true))
-          (asked_more g.M.Settling.plain (g.M.Settling.stands c.loop-request.machine) (g.M.Settling.stands c.ask.new.machine)
-          (take place (map (λ r. r.now) requests)) ((get_or requests place record { ref_ptr = (0, 0); now = [] }).now ∷ []) s
-          (c.loop-request.invariant.asked s f) c.ask.ensures.asked);
-      opening = c.ask.ensures.opening ∙ c.loop-request.invariant.opening;
+          (asked_more g.M.Settling.plain (g.M.Settling.stands c.loop-request.machine) (g.M.Settling.stands c.ask-more.new.machine)
+          (take place (map (λ r. r.now) requests)) (get_or requests place record { ref_ptr = (0, 0); now = [] }).now c.args.upkeep.full.now
+          c.loop-request.more c.ask-more.result s
+          (c.loop-request.invariant.asked s f) c.ask-more.ensures.asked);
+      opening = c.ask-more.ensures.opening ∙ c.loop-request.invariant.opening;
     }
 
 pub returns-clause-asked : goal.returns-clause-asked
 returns-clause-asked g c =
-    λ s f. subst (λ bodies. Asked g.M.Settling.plain (g.M.Settling.stands c.loop-request.machine) bodies s)
-    (all_of c.args.requests.now c.loop-request.request-index c.loop-request-test.false) (c.loop-request.invariant.asked s f)
+    λ s f. subst (λ bodies. Asked g.M.Settling.plain (g.M.Settling.stands c.loop-request.machine) bodies c.args.upkeep.full.now c.loop-request.more s)
+    (all_of c.args.upkeep.requests.now c.loop-request.request-index c.loop-request-test.false) (c.loop-request.invariant.asked s f)
 
 pub returns-clause-opening : goal.returns-clause-opening
 returns-clause-opening g c = c.loop-request.invariant.opening
