@@ -3,15 +3,16 @@ use Rattle.std.specs.Prelude.{ℕ, true, List, [], ◌∷◌, ◌++◌, length, 
 use Rattle.tardis_base.specs.declared.requests.Begin.TheVariants.{Any}
 use Rattle.tardis_base.specs.declared.requests.Request.{Request}
 use Rattle.tardis_base.specs.declared.requests.Request.TheVariants.{Open, Begin, Put, Commit, RaiseAuto, Tidy}
+use Rattle.tardis_base.specs.Sizes.{most_writes}
 use Rattle.wire_talk.specs.Spellings.{request_spelling}
 use Rattle.frame_cut.specs.Frames.{frames}
 use Rattle.branch_export.specs.Exports.{Entry}
 
--- these in groups of 64 in their order, the last group having the rest: at most so many groups
+-- these in groups of as many as one transaction writes in their order, the last group having the rest: at most so many groups
 abbrev pub groups_up_to : ℕ → List Entry → List (List Entry)
 groups_up_to ℕ.zero es = []
 groups_up_to (ℕ.suc n) [] = []
-groups_up_to (ℕ.suc n) (e ∷ es) = take 64 (e ∷ es) ∷ groups_up_to n (drop 64 (e ∷ es))
+groups_up_to (ℕ.suc n) (e ∷ es) = take most_writes (e ∷ es) ∷ groups_up_to n (drop most_writes (e ∷ es))
 
 -- all of them, which are at most as many groups
 abbrev pub groups : List Entry → List (List Entry)

@@ -1,7 +1,7 @@
 //! The script of an export: the frames that bring a fresh site to the same contents.
 
 ghost use Rattle.std.specs.Prelude.{◌≡◌, ◌+◌, ◌*◌, ◌≤◌, ◌++◌, [], true, ℕ, List, length, IsTrue};
-ghost use Rattle.tardis_base.specs.Sizes.{longest_frame};
+ghost use Rattle.tardis_base.specs.Sizes.{longest_frame, most_writes};
 ghost use Rattle.tardis_base.specs.Valid.{is_key, is_value};
 ghost use Rattle.tardis_base.specs.declared.requests.Request.TheVariants.{Open};
 ghost use Rattle.tardis_io.specs.Told.{WhileTold};
@@ -15,12 +15,12 @@ ghost use Rattle.branch_export.specs.Gathering.{Moves};
 
 use crate::gathering::{flush, make_room};
 use crate::writing::{LONGEST_ENTRY, write_entry};
-use tardis_base::ReplyBuf;
+use tardis_base::{MAX_WRITES, ReplyBuf};
 use tardis_io::{Sink, WriteFault};
 use wire_item::{Reader, write_u32};
 
-/// How many entries are put in one transaction, the last one having the rest.
-const GROUP: u64 = 64;
+/// How many entries are put in one transaction, as many as it may write; the last one has the rest.
+const GROUP: u64 = MAX_WRITES as u64;
 
 /// Actor 1 opens a session that follows.
 const OPENING: [u8; 8] = [0, 0, 0, 4, 0, 1, 1, 1];
@@ -38,7 +38,7 @@ const PUTTING: [u8; 3] = [0, 1, 4];
 
 /// The most bytes of the frames of a group.
 const LONGEST_GROUP: usize = BEGINNING.len()
-    + 64 * (4 + PUTTING.len() + LONGEST_ENTRY)
+    + MAX_WRITES * (4 + PUTTING.len() + LONGEST_ENTRY)
     + ENDING.len();
 
 /// Writes the frames of the script of an export. Nothing is gathered yet.
@@ -74,7 +74,7 @@ pub(crate) fn write_script<O: Sink>(
 
 /// Writes the frames of a group of so many entries, which are read.
 fn write_group(reader: &mut Reader<'_>, size: u64, out: &mut ReplyBuf)
-    requires size { size ≤ 64 }
+    requires size { size ≤ most_writes }
     requires entries { HasEntries reader.old size }
     requires room { length out.old + 271010 ≤ longest_frame }
     ensures { (es : List Entry) (rest : List ℕ) → BeginsWith reader.old size es rest → (reader.new ≡ rest) × (out.new ≡ out.old ++ group_frames es) }

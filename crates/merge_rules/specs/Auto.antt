@@ -7,6 +7,7 @@ use Rattle.tardis_base.specs.declared.records.Write.{Write}
 use Rattle.tardis_base.specs.declared.replies.Refusal.{Refusal}
 use Rattle.tardis_base.specs.declared.replies.Reply.{Reply}
 use Rattle.tardis_base.specs.declared.replies.Reply.TheVariants.{Committed, Refused as RefusedWith}
+use Rattle.tardis_base.specs.Sizes.{most_writes}
 use Rattle.tardis_base.specs.Ids.{is_before}
 use Rattle.tardis_base.specs.Keys.{KeyWrite}
 use Rattle.plain_dag.specs.Writers.{read}
@@ -75,7 +76,7 @@ merge_values site n a b value ks =
 abbrev pub merge_both : Site → ℕ → List PrefixRule → StateId → StateId → AutoAnswer
 merge_both site n rules a b =
     let ks = conflict_keys site.dag (a ∷ b ∷ []) in
-    if nat_lt 64 (length ks) then (site, Wide (min (length ks) 4294967295)) else merge_values site n a b (value_of rules site.dag a b) ks
+    if nat_lt most_writes (length ks) then (site, Wide (min (length ks) 4294967295)) else merge_values site n a b (value_of rules site.dag a b) ks
 
 abbrev pub unless_refused : Site → Option Refusal → AutoAnswer → AutoAnswer
 unless_refused site None answer = answer

@@ -8,6 +8,7 @@ use Rattle.tardis_base.specs.declared.faults.NoMemory.{NoMemory as OutOfMemory}
 use Rattle.tardis_base.specs.declared.ids.StateId.{StateId}
 use Rattle.tardis_base.specs.declared.ids.Slot.{Slot}
 use Rattle.tardis_base.specs.declared.records.Record.{Record}
+use Rattle.tardis_base.specs.Sizes.{most_writes}
 use Rattle.tardis_base.specs.Ids.{is_before}
 use Rattle.tardis_base.specs.Valid.{is_key, is_write}
 use Rattle.tardis_base.specs.Keys.{KeyWrite, are_ascending_keys}
@@ -36,11 +37,11 @@ Ends stands answer old (Err fault) = stands old
 
 -- the conflict keys of the two states are too many, or one of them has no value, or these are their values
 abbrev pub SettledAs : List PrefixRule → List Record → StateId → StateId → Settled → Type 0
-SettledAs rules rs a b (Wide n) = (nat_lt 64 (length (conflict_keys rs (a ∷ b ∷ []))) ≡ true) × (n ≡ min (length (conflict_keys rs (a ∷ b ∷ []))) 4294967295)
-SettledAs rules rs a b (Unmerged k) = (nat_lt 64 (length (conflict_keys rs (a ∷ b ∷ []))) ≡ false)
+SettledAs rules rs a b (Wide n) = (nat_lt most_writes (length (conflict_keys rs (a ∷ b ∷ []))) ≡ true) × (n ≡ min (length (conflict_keys rs (a ∷ b ∷ []))) 4294967295)
+SettledAs rules rs a b (Unmerged k) = (nat_lt most_writes (length (conflict_keys rs (a ∷ b ∷ []))) ≡ false)
     × (unmerged (value_of rules rs a b) (conflict_keys rs (a ∷ b ∷ [])) ≡ Some k)
 SettledAs rules rs a b (Values ws) =
-    (nat_lt 64 (length (conflict_keys rs (a ∷ b ∷ []))) ≡ false) × (unmerged (value_of rules rs a b) (conflict_keys rs (a ∷ b ∷ [])) ≡ None)
+    (nat_lt most_writes (length (conflict_keys rs (a ∷ b ∷ []))) ≡ false) × (unmerged (value_of rules rs a b) (conflict_keys rs (a ∷ b ∷ [])) ≡ None)
     × (ws ≡ values (value_of rules rs a b) (conflict_keys rs (a ∷ b ∷ [])))
 
 -- what the settling of two states may rely on: their conflict keys are keys, and where they part at one state, that is kept

@@ -20,7 +20,7 @@ use record_store::RecordStore;
 use rule_list::{Rule, RuleList, rule_for};
 use state_dag::StateDag;
 use std::alloc::Global;
-use tardis_base::{Found, Key, NoMemory, Slot, StateId, Write, WriteSet};
+use tardis_base::{Found, Key, MAX_WRITES, NoMemory, Slot, StateId, Write, WriteSet};
 
 /// What was found of the conflict keys of two states.
 #[derive(Drop)]
@@ -33,8 +33,8 @@ pub enum Settled {
     Values(WriteSet),
 }
 
-/// The most conflict keys that are settled.
-const MOST_KEYS: u32 = 64;
+/// The most conflict keys that are settled: as many as one transaction writes.
+const MOST_KEYS: u32 = MAX_WRITES as u32;
 
 /// Settles the conflict keys of the states of these slots by rules: each gets the value that its rule gives, from what is
 /// read of it at the two and where they part.
