@@ -9,7 +9,7 @@ loop-slot-preserved c =
     let i = c.loop-slot.slot-index in
     let counted = c.loop-slot.invariant.counted in
     let few = c.loop-slot.invariant.few in
-    let other = c.if-len-eq-SHOWN.false in
+    let other = c.if-len-eq-MAX_NAMED.false in
     let len = c.len.ensures in
     let longer = length-append c.loop-slot.first (c.id_of.result ∷ []) in
     record {
@@ -22,10 +22,10 @@ loop-slot-preserved c =
           ∙ (ap (λ x. take i xs ++ x ∷ []) same ∙ sym n.next));
     }
 
-pub returns-then-len-eq-SHOWN : goal.returns-then-len-eq-SHOWN
-returns-then-len-eq-SHOWN c = λ xs are.
+pub returns-then-len-eq-MAX_NAMED : goal.returns-then-len-eq-MAX_NAMED
+returns-then-len-eq-MAX_NAMED c = λ xs are.
     let counted = c.loop-slot.invariant.counted in
-    let full = c.if-len-eq-SHOWN.true in
+    let full = c.if-len-eq-MAX_NAMED.true in
     let len = c.len.ensures in
     let at : c.loop-slot.slot-index ≡ 256 = omega arith in
     c.loop-slot.invariant.front xs are ∙ ap (λ n. take n xs) at
