@@ -14,7 +14,7 @@ newest state tells the commit before it, and all else depends on its own session
 `tardis run` over it has to give the same replies. An export is a function of the records alone, so another order that the replies
 allow has the same exports; and what the server collected changes nothing of what is read at a state that is kept.
 
-Each wait has an end, and the whole run ends after five minutes at the latest. Nothing is left behind."""
+The whole run ends after ten minutes at the latest. Nothing is left behind."""
 
 import io
 import os
@@ -42,8 +42,10 @@ from tardis.exports import write_export  # noqa: E402
 #: so many keys are there before the load begins: more than three pages of them
 KEPT, WRITERS = 600, 12
 #: so many exports, of which the last are made by the command; and so many commits come at least between two pages, or beside the command
-ROUNDS, BY_COMMAND, BETWEEN = 6, 2, 25
-LEAST_PAGES = 4
+ROUNDS, BY_COMMAND, BETWEEN = 5, 2, 15
+#: commits are let through whenever so many bytes were written, which are fewer than a page has, and so often at least
+PIECE, LEAST_PAUSES = 50_000, 4
+LONGEST_RUN = 600
 
 
 class Load:
@@ -56,10 +58,9 @@ class Load:
 
     def wait_for(self, more):
         """Lets so many commits come, and waits for them."""
-        self.allowed = self.made + more
-        wanted, end = self.allowed, time.monotonic() + PATIENCE
+        wanted = self.allowed = self.made + more
         while self.made < wanted:
-            assert time.monotonic() < end and not self.is_over, "no commits come"
+            assert not self.is_over, "no commits come any more"
             time.sleep(0.001)
 
 
@@ -144,7 +145,7 @@ class SlowFile(io.BytesIO):
 
     def write(self, data):
         self.since += len(data)
-        if self.since >= 30_000:
+        if self.since >= PIECE:
             self.since, self.pauses = 0, self.pauses + 1
             self.load.wait_for(BETWEEN)
         return super().write(data)
@@ -167,7 +168,7 @@ def by_code(load, address, state):
     with tardis.connect(address, PATIENCE) as site:
         file = SlowFile(load)
         assert write_export(site, state, file) > 0
-        assert file.pauses >= LEAST_PAGES, "it was written in %d parts" % file.pauses
+        assert file.pauses >= LEAST_PAUSES, "it was written in %d parts" % file.pauses
         return file.getvalue()
 
 
@@ -175,9 +176,7 @@ def by_command(load, address, state, folder):
     path = os.path.join(folder, "exported")
     running = subprocess.Popen([sys.executable, "-m", "tardis", "export", address, "--at", str(state), "--out", path], cwd=CLIENT,
                                stdin=subprocess.DEVNULL, stdout=subprocess.DEVNULL)
-    end = time.monotonic() + 3 * PATIENCE
     while running.poll() is None:
-        assert time.monotonic() < end, "the command doesn't end"
         load.wait_for(1)
     assert running.returncode == 0, "the command ended with %d" % running.returncode
     with open(path, "rb") as file:
@@ -256,7 +255,7 @@ def read_frames(data):
 
 
 def run(program, words, frames):
-    done = subprocess.run([program, *words], input=frames, stdout=subprocess.PIPE, timeout=3 * PATIENCE)
+    done = subprocess.run([program, *words], input=frames, stdout=subprocess.PIPE, timeout=LONGEST_RUN)
     assert done.returncode == 0, "%s ended with %d" % (" ".join(words), done.returncode)
     return done.stdout
 
@@ -284,7 +283,7 @@ def load_and_export(program, folder):
         assert let_talk(filling), "the server has gone"
         talkers = [Talker(address, write(load, random.Random(name), name), Noted(load)) for name in range(WRITERS)]
         talkers.append(Talker(address, merge(load), Noted(load)))
-        exporting = threading.Thread(target=export_all, args=(load, address, folder, exported, faults))
+        exporting = threading.Thread(target=export_all, args=(load, address, folder, exported, faults), daemon=True)
         exporting.start()
 
         def pause():
@@ -302,6 +301,10 @@ def load_and_export(program, folder):
     return load, exported
 
 
+def too_late(number, stack):
+    raise AssertionError("it takes more than %d seconds" % LONGEST_RUN)
+
+
 def main():
     words = sys.argv[1:]
     if len(words) > 2 or any(word.startswith("-") for word in words):
@@ -310,7 +313,8 @@ def main():
     for it in tardisd, program:
         # builds it, where that is needed
         subprocess.run([it, "--version"], check=True, stdout=subprocess.DEVNULL, timeout=7200)
-    signal.alarm(300)
+    signal.signal(signal.SIGALRM, too_late)
+    signal.alarm(LONGEST_RUN)
     folder = tempfile.mkdtemp()
     try:
         load, exported = load_and_export(tardisd, folder)
