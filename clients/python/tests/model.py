@@ -10,7 +10,7 @@ import threading
 
 ROOT = (0, 0)
 NOT_OPEN, ALREADY_OPEN, TXN_OPEN, NO_TXN, WRONG_MODE, TOO_MANY, UNKNOWN, BELOW, COMPARABLE, NOT_READ, CONFLICT_KEY, OPEN_CONFLICT, BRANCHES, \
-    CEILING_BACK, FLOOR_BACK, HELD, COLLECTED = 2, 3, 5, 6, 7, 8, 9, 10, 11, 12, 13, 14, 15, 16, 17, 18, 19
+    CEILING_BACK, FLOOR_BACK, HELD, COLLECTED, BAD_SITE = 2, 3, 5, 6, 7, 8, 9, 10, 11, 12, 13, 14, 15, 16, 17, 18, 19, 23
 
 
 def spelled(id):
@@ -337,6 +337,8 @@ class Model:
 
     def do_19(self, actor, fields):
         counts = [fields.number(4) for _ in range(fields.number(1))]
+        if len(counts) != 1:
+            raise Refusal(BAD_SITE, struct.pack(">H", len(counts)))
         told = [id for id in self.order[1:] if id[1] > counts[0] and not self.is_above(id, self.floor)]
         records = b""
         for count, id in enumerate(told):
