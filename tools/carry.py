@@ -6,8 +6,10 @@ usage: tools/carry.py [--every SECONDS] [--rounds R] ADDRESS ADDRESS..
 An address is unix:PATH or HOST:PORT, of a `tardisd` or a `tardis serve` with the same --sites. In each round every site is
 asked what each other lacks, and what it gives is delivered there. Then it waits so many seconds (1 where nothing is said), and
 begins anew, for R rounds or until it is killed. It keeps one connection to each site. A site that can't be reached, or whose
-connection ends, is told in a line on standard error, and tried again in the next round; the others go on. Nothing has to be
-mended after it was killed: the next round asks for what is still lacking.
+connection ends, is told in a line on standard error, and tried again in the next round; the others go on. So they do where sites
+don't belong together: where two servers are one site by their own words, or have other numbers of sites, nothing is carried
+between them, and what a site refuses to give is told. Nothing has to be mended after it was killed: the next round asks for what is
+still lacking.
 """
 
 import argparse
@@ -32,13 +34,14 @@ class Site:
     """A site, and the connection to it where there is one."""
 
     def __init__(self, address):
-        self.address, self.link, self.is_away = address, None, False
+        self.address, self.link, self.is_away, self.told = address, None, False, None
 
     def ask(self, what):
         """What a call of the connection gives."""
         try:
             if self.link is None:
                 self.link = tardis.connect(self.address, PATIENCE)
+                self.told = about(self.link)
             reply = what(self.link)
         except (OSError, tardis.ProtocolError) as fault:
             self.lose(fault)
@@ -55,6 +58,26 @@ class Site:
         if not self.is_away:
             print("carry: %s: %s" % (self.address, fault), file=sys.stderr, flush=True)
         self.is_away = True
+
+
+def about(link):
+    """What the site tells of itself; None where it answers no questions."""
+    try:
+        return link.about()
+    except tardis.Unsupported:
+        return None
+
+
+def mismatch(source, target):
+    """Why two sites don't belong together, as far as they tell; None where nothing speaks against it."""
+    one, other = (site.ask(lambda link, site=site: site.told) for site in (source, target))
+    if one is None or other is None:
+        return None
+    if one.limits.sites != other.limits.sites:
+        return "one has --sites %d and the other --sites %d, so they don't belong together" % (one.limits.sites, other.limits.sites)
+    if one.own == other.own:
+        return "both are site %d of %d: each site needs a number of its own" % (one.own, one.limits.sites)
+    return None
 
 
 def deliver(target, item):
@@ -76,16 +99,33 @@ def carry(source, target):
         is_news = any([deliver(target, item) for item in items])
 
 
-def make_round(sites):
-    for source in sites:
-        for target in sites:
-            if source is not target:
-                try:
-                    carry(source, target)
-                except Away:
-                    pass
-                except tardis.NoMemory as fault:
-                    print("carry: from %s to %s: %s" % (source.address, target.address, fault), file=sys.stderr, flush=True)
+class Carrier:
+    """Rounds between sites, and what was told of each pair last."""
+
+    def __init__(self, addresses):
+        self.sites = [Site(address) for address in addresses]
+        self.said = {}
+
+    def make_round(self):
+        for source in self.sites:
+            for target in self.sites:
+                if source is not target:
+                    self.carry(source, target)
+
+    def carry(self, source, target):
+        try:
+            why = mismatch(source, target)
+            if why is None:
+                carry(source, target)
+        except Away:
+            return
+        except (tardis.Refused, tardis.NoMemory) as fault:
+            why = str(fault)
+        # (what goes on from round to round is told once)
+        pair = source.address, target.address
+        if why is not None and why != self.said.get(pair):
+            print("carry: from %s to %s: %s" % (*pair, why), file=sys.stderr, flush=True)
+        self.said[pair] = why
 
 
 def main():
@@ -94,12 +134,12 @@ def main():
     words.add_argument("--rounds", type=int, metavar="R")
     words.add_argument("addresses", nargs="+", metavar="ADDRESS")
     words = words.parse_args()
-    sites = [Site(address) for address in words.addresses]
+    carrier = Carrier(words.addresses)
     made = 0
     while words.rounds is None or made < words.rounds:
         if made:
             time.sleep(words.every)
-        make_round(sites)
+        carrier.make_round()
         made += 1
 
 

@@ -344,13 +344,20 @@ class Connections:
     def test_questions_are_answered_beside_requests(self):
         one, start = state(1, 1), state(0, 0)
         at_one = b"\x40" + one + key(b"x")
-        told = ask(self.connect(), at_one, OPEN, BEGIN, put(b"x", b"1"), COMMIT, at_one, b"\x41" + one + bytes(2), b"\x45\x00", b"\xff")
+        told = ask(self.connect(), at_one, OPEN, BEGIN, put(b"x", b"1"), COMMIT, at_one, b"\x41" + one + bytes(2), b"\x42" + one + bytes(2),
+                   b"\x43" + one, b"\x44\x01" + one + key(b"x"), b"\x45\x00", b"\x46", b"\xff")
         self.assertEqual(told, [
             b"\x15\x09" + one, OPENED, BEGUN, DONE, b"\x08" + one + b"\x01" + start,
             b"\x40\x01" + one + b"\x01\x00\x011",
             b"\x41" + bytes([0, 0, 0, 1, 0, 1]) + key(b"x"),
+            b"\x42" + bytes([0, 0, 0, 1, 0, 1]) + key(b"x") + b"\x00\x011",
+            # one state had arrived before, its parent, which is kept; no child is; and the key that it wrote
+            b"\x43" + struct.pack(">Q", 1) + 2 * (b"\x01" + start) + bytes(4) + b"\x01" + key(b"x"),
+            b"\x44\x01" + one + b"\x01" + one + b"\x01\x00\x011",
             # the floor may go to the start, where the one session's ceiling is, which holds it
             b"\x45" + start + bytes([0, 0, 0, 1, 0, 1, 0, 1, 0]) + start + one + b"\x00\x01",
+            # version 1, the limits, site 1, which knows two states and keeps them
+            b"\x46" + struct.pack(">HHIIHQHQI", 1, 1, 16_384, 4_096, 256, 1 << 30, 1, 2, 2),
             b"\x15\x01"])
 
     def test_after_a_half_close_all_replies_come(self):

@@ -26,21 +26,23 @@ from .refusals import (
     FloorBack, Full, Held, Malformed, NoBranch, NoMemory, NoSuchItem, NoTxn, NotOpen, NotRead, OpenConflict, OwnItem, PathFull,
     ProtocolError, Refused, SeqEnd, SessionsFull, TooMany, TrailFull, TxnOpen, Unknown, Unresolved, Unsupported, WrongMode)
 from .replies import (
-    Absent, Applied, Batch, Begun, Closed, Committed, Consent, Deleted, Done, Early, Ended, Keys, Known, Merging, Opened, Raised, Read,
-    Record, Reply, Shown, SiteLine, Stat, States, Tidied, Value, Write)
+    About, Absent, Applied, Batch, Begun, Closed, Committed, Consent, Deleted, Done, Early, Ended, Entries, ForkReads, Keys, Known,
+    Limits, Merging, Opened, Raised, Read, Record, Recorded, Reply, SessionLine, Sessions, Shown, SiteLine, Stat, States, Tidied, Value,
+    Write)
 from .resolvers import (
     UNKNOWN, Base, Resolve, Sides, by_prefix, counter, last_writer, merge_text, three_way_text, union_of, union_of_lines)
 
 __version__ = "0.2.0"
 
 __all__ = [
-    "Absent", "AlreadyOpen", "Answer", "Applied", "BadSite", "BagFull", "Base", "Batch", "Begun", "Below", "Branches", "Bytes",
-    "CeilingBack", "Closed", "ClosedParent", "Collected", "Committed", "Comparable", "Comparison", "Conflict", "ConflictKey",
-    "Consent", "Deleted", "Difference", "Disconnected", "Done", "Early", "Ended", "FloorBack", "Full", "Held", "History",
-    "Items", "Keys", "Known", "Malformed", "MergeStep", "Merged", "Merging", "NoBranch", "NoMemory", "NoSuchItem", "NoTxn",
-    "NotOpen", "NotRead", "OpenConflict", "Opened", "OwnItem", "PathFull", "Pipeline", "ProtocolError", "ROOT", "Raised",
-    "Read", "Record", "Refused", "Reply", "Resolve", "SeqEnd", "SessionsFull", "Shown", "Sides", "Site", "SiteLine", "Stat",
-    "State", "StateId", "States", "Tidied", "TooMany", "TrailFull", "Transaction", "TxnOpen", "UNKNOWN", "Unknown",
-    "Unresolved", "Unsupported", "Value", "Write", "WrongMode", "by_prefix", "connect", "counter", "last_writer", "merge_text",
+    "About", "Absent", "AlreadyOpen", "Answer", "Applied", "BadSite", "BagFull", "Base", "Batch", "Begun", "Below",
+    "Branches", "Bytes", "CeilingBack", "Closed", "ClosedParent", "Collected", "Committed", "Comparable", "Comparison",
+    "Conflict", "ConflictKey", "Consent", "Deleted", "Difference", "Disconnected", "Done", "Early", "Ended", "Entries",
+    "FloorBack", "ForkReads", "Full", "Held", "History", "Items", "Keys", "Known", "Limits", "Malformed", "MergeStep",
+    "Merged", "Merging", "NoBranch", "NoMemory", "NoSuchItem", "NoTxn", "NotOpen", "NotRead", "OpenConflict", "Opened",
+    "OwnItem", "PathFull", "Pipeline", "ProtocolError", "ROOT", "Raised", "Read", "Record", "Recorded", "Refused", "Reply",
+    "Resolve", "SeqEnd", "SessionLine", "Sessions", "SessionsFull", "Shown", "Sides", "Site", "SiteLine", "Stat", "State",
+    "StateId", "States", "Tidied", "TooMany", "TrailFull", "Transaction", "TxnOpen", "UNKNOWN", "Unknown", "Unresolved",
+    "Unsupported", "Value", "Write", "WrongMode", "by_prefix", "connect", "counter", "last_writer", "merge_text",
     "three_way_text", "union_of", "union_of_lines",
 ]

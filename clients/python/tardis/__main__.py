@@ -4,21 +4,26 @@ import argparse
 import contextlib
 import json
 import os
+import shutil
 import sys
+import tempfile
 from typing import Any, Callable, Dict, Iterator, List, Optional
 
 from . import __version__
 from .blocking import Site, Transaction, connect
+from .exports import put_in_place, write_export
 from .histories import State
 from .ids import StateId
 from .merging import Merged
 from .pictures import as_dot, as_json, as_svg, as_text, json_bytes, word, writes_data, wrote
-from .refusals import NoMemory, ProtocolError, Refused, Unresolved
+from .refusals import NoMemory, ProtocolError, Refused, SessionsFull, Unresolved, Unsupported
 from .replies import Deleted, Value
 from .resolvers import Base, Resolve, Sides, Unknown, by_prefix, counter, last_writer, three_way_text, union_of, union_of_lines
 
 #: how long a reply is waited for, in seconds
 PATIENCE = 30.0
+#: so many leaves are named where one is asked for
+MOST_NAMED = 16
 
 Words = argparse.Namespace
 
@@ -76,8 +81,11 @@ def leaves(site: Site, words: Words) -> None:
 def show(site: Site, words: Words) -> None:
     id = StateId.parse(words.state)
     shown = site.show(id)
-    history = site.history()
-    state = history[id] if id in history else State(id, (), None)
+    try:
+        state = next(site.walk(id))
+    except Unsupported:
+        history = site.history()
+        state = history[id] if id in history else State(id, (), None)
     lines = [f"state {id}, which came after {shown.arrival} others", "parents: " + (", ".join(map(str, state.parents)) or "none"),
              "children: " + (", ".join(map(str, shown.children)) or "none, it is a leaf")]
     if state.writes is None:
@@ -91,9 +99,13 @@ def show(site: Site, words: Words) -> None:
 
 def get(site: Site, words: Words) -> None:
     site.open()
-    begun = site.begin(words.at or "any")
-    read = site.get(words.key)
-    site.abort()
+    begun = StateId.parse(words.at) if words.at else site.begin("any")
+    try:
+        read = site.get_at(words.key, begun)
+    except Unsupported:
+        if words.at:
+            site.begin(begun)
+        read = site.get(words.key)
     writer = read.writer if isinstance(read, (Value, Deleted)) else None
     value = read.value if isinstance(read, Value) else None
     if words.json:
@@ -150,6 +162,45 @@ def newest(site: Site) -> StateId:
     begun = site.begin("any")
     site.close()
     return begun
+
+
+def sessions(site: Site, words: Words) -> None:
+    told = site.sessions()
+    lines = [f"{told.total} open; raised now, the floor would stand at {told.floor}"]
+    for line in told.first:
+        reads = f", reads {', '.join(map(str, line.reads))}" if line.reads else ""
+        lines.append(f"session {line.number}: ceiling {line.ceiling}{', which follows' if line.follow else ''}, last commit {line.last}{reads}"
+                     + (" (holds the floor)" if line.holds else ""))
+    say(words, lines, {"floor": str(told.floor), "sessions": [
+        {"number": line.number, "follow": line.follow, "ceiling": str(line.ceiling), "last": str(line.last),
+         "reads": [str(state) for state in line.reads], "holds": line.holds} for line in told.first]})
+
+
+def export(site: Site, words: Words) -> None:
+    if words.out is None and sys.stdout.isatty():
+        raise Told("an export is bytes, and not for a terminal: give --out FILE, or send it on")
+    # the session holds the floor where it is, so that the state isn't collected while it is read
+    with contextlib.suppress(SessionsFull):
+        site.open()
+    state = StateId.parse(words.at) if words.at else the_leaf(site)
+    with tempfile.TemporaryFile() as whole:
+        # nothing is written before all is there
+        count = write_export(site, state, whole)
+        if words.out is not None:
+            put_in_place(whole, words.out)
+            print(f"{words.out} has {count} {'key' if count == 1 else 'keys'} of {state}")
+        else:
+            whole.seek(0)
+            shutil.copyfileobj(whole, sys.stdout.buffer)
+
+
+def the_leaf(site: Site) -> StateId:
+    """The one leaf that there is."""
+    leaves = site.leaves()
+    if leaves.total > 1:
+        named = ", ".join(map(str, leaves.first[:MOST_NAMED])) + (", .." if leaves.total > MOST_NAMED else "")
+        raise Told(f"there are {leaves.total} leaves, {named}: give --at STATE, or merge them first")
+    return leaves.first[0]
 
 
 RULES: Dict[str, Resolve] = {
@@ -252,6 +303,10 @@ def parser() -> argparse.ArgumentParser:
     joined = command("merge", merge, "joins all leaves, or the states that are named; asks for each conflict where no rules are given")
     joined.add_argument("states", metavar="STATE", nargs="*")
     joined.add_argument("--rules", metavar="PREFIX=RULE,..", help=f"a rule is {', '.join(RULES)} or refuse; the longest prefix counts")
+    command("sessions", sessions, "lists the open sessions, and which of them hold the floor")
+    exported = command("export", export, "writes the keys and values of a state, as `tardis import` reads them", False)
+    exported.add_argument("--at", metavar="STATE", help="of this state; else of the one leaf")
+    exported.add_argument("--out", metavar="FILE", help="to this file, whole or not at all; else to standard output")
     watched = command("watch", watch, "tells each state that comes from now on")
     watched.add_argument("--every", type=float, default=0.5, metavar="SECONDS")
     page = command("web", web, "serves a page at http://127.0.0.1:PORT/ that shows the site live", False)

@@ -13,20 +13,23 @@ import asyncio
 import contextlib
 import socket
 import time
-from typing import Any, AsyncIterator, Awaitable, Callable, List, Optional, Sequence, Tuple, TypeVar, Union
+from typing import Any, AsyncIterator, Awaitable, Callable, Dict, List, Optional, Sequence, Tuple, TypeVar, Union
 
-from . import requests
+from . import questions, requests
 from .addresses import parse_address, parse_timeout
 from .conversation import Answer, Conversation
-from .core import Aside, Core, Finished, Steps, ask, ask_all
+from .core import Core, Finished
 from .histories import Difference, History, Items, State
-from .ids import Bytes, StateId, number
+from .ids import Bytes, StateId, number, prefix_bytes
+from .looking import Walk, all_sessions, last_entry
 from .merging import Comparison, Merged, compare, merge
 from .pipelines import Pipeline
 from .refusals import Branches, Disconnected, NoTxn, ProtocolError
-from .replies import Applied, Batch, Committed, Done, Ended, Keys, Raised, Read, Reply, Shown, Stat, States, Value
+from .replies import (
+    About, Applied, Batch, Committed, Done, Ended, Keys, Raised, Read, Recorded, Reply, Sessions, Shown, Stat, States, Value)
 from .requests import At, Delivered, Request
 from .resolvers import Resolve
+from .steps import Aside, Steps, ask, ask_all
 
 __all__ = ["Site", "Transaction", "connect"]
 
@@ -355,16 +358,53 @@ class Site:
     async def tidy(self, count: int = 65535) -> int:
         return await self._run(ask(requests.tidy(count)))
 
+    # questions
+
+    async def get_at(self, key: Bytes, state: At) -> Read:
+        return await self._run(ask(questions.at(key, state)))
+
+    async def value_at(self, key: Bytes, state: At, default: Optional[bytes] = None) -> Optional[bytes]:
+        read = await self.get_at(key, state)
+        return read.value if isinstance(read, Value) else default
+
+    async def scan(self, state: At, prefix: Bytes = b"", after: Bytes = b"") -> AsyncIterator[Tuple[bytes, bytes]]:
+        behind: Optional[bytes] = prefix_bytes(after)
+        while behind is not None:
+            page = await self._run(ask(questions.scan(state, prefix, behind)))
+            for entry in page.first:
+                yield entry
+            behind = last_entry(page)
+
+    async def record(self, state: At) -> Recorded:
+        return await self._run(ask(questions.record(state)))
+
+    async def base(self, key: Bytes, states: Sequence[At]) -> Dict[StateId, Read]:
+        return await self._run(ask(questions.base(key, states)))
+
+    async def walk(self, state: Optional[At] = None) -> AsyncIterator[State]:
+        walk = Walk(state)
+        await self._run(walk.begin())
+        found = await self._run(walk.next())
+        while found is not None:
+            yield found
+            found = await self._run(walk.next())
+
+    async def sessions(self) -> Sessions:
+        return await self._run(all_sessions())
+
+    async def about(self) -> About:
+        return await self._run(ask(questions.about()))
+
     # the history
 
-    async def history(self) -> History:
-        return await self._run(self._core.history())
+    async def history(self, state: Optional[At] = None) -> History:
+        return await self._run(self._core.history(state))
 
     async def items(self, state: At, prefix: Bytes = b"") -> Items:
         return await self._run(self._core.items(state, prefix))
 
     async def keys(self, state: At, prefix: Bytes = b"") -> Tuple[bytes, ...]:
-        return (await self.items(state, prefix)).keys
+        return await self._run(self._core.keys(state, prefix))
 
     async def diff(self, one: At, other: At) -> Tuple[Difference, ...]:
         return await self._run(self._core.diff(one, other))

@@ -6,20 +6,23 @@ import selectors
 import socket
 import threading
 import time
-from typing import Any, Callable, Iterator, List, Optional, Sequence, Tuple, TypeVar, Union
+from typing import Any, Callable, Dict, Iterator, List, Optional, Sequence, Tuple, TypeVar, Union
 
-from . import requests
+from . import questions, requests
 from .addresses import parse_address, parse_timeout
 from .conversation import Answer
-from .core import Aside, Core, Finished, Steps, ask, ask_all
+from .core import Core, Finished
 from .histories import Difference, History, Items, State
-from .ids import Bytes, StateId, number
+from .ids import Bytes, StateId, number, prefix_bytes
+from .looking import Walk, all_sessions, last_entry
 from .merging import Comparison, Merged, compare, merge
 from .pipelines import Pipeline
 from .refusals import Branches, Disconnected, NoTxn, ProtocolError
-from .replies import Applied, Batch, Committed, Done, Ended, Keys, Raised, Read, Reply, Shown, Stat, States, Value
+from .replies import (
+    About, Applied, Batch, Committed, Done, Ended, Keys, Raised, Read, Recorded, Reply, Sessions, Shown, Stat, States, Value)
 from .requests import At, Delivered, Request
 from .resolvers import Resolve
+from .steps import Aside, Steps, ask, ask_all
 
 __all__ = ["Site", "Transaction", "connect"]
 
@@ -365,19 +368,67 @@ class Site:
         """Collects up to so many closed states, and tells how many went."""
         return self._run(ask(requests.tidy(count)))
 
+    # questions: they need no session, and a server that doesn't answer them is told as `Unsupported`
+
+    def get_at(self, key: Bytes, state: At) -> Read:
+        """What is read of the key at a state that is kept, wherever the session may read."""
+        return self._run(ask(questions.at(key, state)))
+
+    def value_at(self, key: Bytes, state: At, default: Optional[bytes] = None) -> Optional[bytes]:
+        """The bytes that are read there, or the default where there are none."""
+        read = self.get_at(key, state)
+        return read.value if isinstance(read, Value) else default
+
+    def scan(self, state: At, prefix: Bytes = b"", after: Bytes = b"") -> Iterator[Tuple[bytes, bytes]]:
+        """Yields the keys that have a value at the state, begin so and stand behind `after`, in order, with their values. A page at
+        a time is asked for, of at most 65,536 bytes. Where the state is collected meanwhile it ends with `Collected`."""
+        behind: Optional[bytes] = prefix_bytes(after)
+        while behind is not None:
+            page = self._run(ask(questions.scan(state, prefix, behind)))
+            yield from page.first
+            behind = last_entry(page)
+
+    def record(self, state: At) -> Recorded:
+        """A state's parents, those of them and of its children that are kept, and the keys that it wrote."""
+        return self._run(ask(questions.record(state)))
+
+    def base(self, key: Bytes, states: Sequence[At]) -> Dict[StateId, Read]:
+        """What is read of the key where these 1 to 8 states parted: by each such state, in order of arrival, of which there may be 8."""
+        return self._run(ask(questions.base(key, states)))
+
+    def walk(self, state: Optional[At] = None) -> Iterator[State]:
+        """Yields the kept states from this one on upwards, or from the leaves on, the newest first. Each has all its parents, also
+        those that were collected; behind such it goes on at the forks above. Of more than 256 leaves it begins at the 256 that a
+        site lists, and at the newest state of each site."""
+        walk = Walk(state)
+        self._run(walk.begin())
+        found = self._run(walk.next())
+        while found is not None:
+            yield found
+            found = self._run(walk.next())
+
+    def sessions(self) -> Sessions:
+        """All open sessions, which of them hold the floor, and where that would stand if it were raised now."""
+        return self._run(all_sessions())
+
+    def about(self) -> About:
+        """The version of the format, the site's limits and its own number, and how many states it knows and keeps."""
+        return self._run(ask(questions.about()))
+
     # the history
 
-    def history(self) -> History:
-        """All states that the site keeps, with what each wrote."""
-        return self._run(self._core.history())
+    def history(self, state: Optional[At] = None) -> History:
+        """All states that the site keeps, with what each wrote; or this one and those above it."""
+        return self._run(self._core.history(state))
 
     def items(self, state: At, prefix: Bytes = b"") -> Items:
-        """The keys that have a value at the state and begin so, with their values, as far as the site tells what was written."""
+        """The keys that have a value at the state and begin so, with their values. Of a server that answers no questions, as far as
+        the site tells what was written."""
         return self._run(self._core.items(state, prefix))
 
     def keys(self, state: At, prefix: Bytes = b"") -> Tuple[bytes, ...]:
-        """The keys of `items`."""
-        return self.items(state, prefix).keys
+        """The keys of `items`, without their values."""
+        return self._run(self._core.keys(state, prefix))
 
     def diff(self, one: At, other: At) -> Tuple[Difference, ...]:
         """The keys that read differently at two states."""

@@ -1,8 +1,8 @@
-"""The first byte of each request and of each reply, by the names that the site's own code gives them."""
+"""The first byte of each request and reply, and of each question and of what is told, by the names that the site's own code gives them."""
 
 from enum import IntEnum
 
-__all__ = ["ReplyCode", "RequestCode"]
+__all__ = ["AnswerCode", "QuestionCode", "ReplyCode", "RequestCode"]
 
 
 class RequestCode(IntEnum):
@@ -55,3 +55,25 @@ class ReplyCode(IntEnum):
     CLOSED = 20
     REFUSED = 21
     NO_MEMORY = 22
+
+
+class QuestionCode(IntEnum):
+    """The codes of questions, as `crates/plain_questions/src/question_codes.rt` has them."""
+    AT = 64
+    KEYS = 65
+    SCAN = 66
+    RECORD = 67
+    BASE = 68
+    SESSIONS = 69
+    SITE = 70
+
+
+class AnswerCode(IntEnum):
+    """The codes of what is told, as `crates/plain_questions/src/answer_codes.rt` has them: each is that of its question."""
+    READ = 64
+    KEYS = 65
+    ENTRIES = 66
+    RECORD = 67
+    FORK_READS = 68
+    SESSIONS = 69
+    SITE = 70

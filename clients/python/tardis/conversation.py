@@ -7,13 +7,18 @@ wrong in the midst of one, the conversation is over and says so.
 from collections import deque
 from typing import Any, Callable, Deque, Generic, Optional, Sequence, TypeVar
 
-from .refusals import Disconnected, NoMemory, ProtocolError, Refused
+from .codes import QuestionCode
+from .refusals import FORK_POINTS, Disconnected, NoMemory, ProtocolError, Refused, TooMany
 from .replies import LONGEST_FRAME, Reply, read_reply
 from .requests import Request, frame
 
 __all__ = ["Answer", "Conversation"]
 
 T = TypeVar("T")
+
+#: the codes of questions, and of what is told to them, begin here
+FIRST_QUESTION = bytes((min(QuestionCode),))
+ASKS_BASE = bytes((QuestionCode.BASE,))
 
 
 class Answer(Generic[T]):
@@ -31,7 +36,7 @@ class Answer(Generic[T]):
 
     def give(self, reply: Reply) -> None:
         if isinstance(reply, (Refused, NoMemory)):
-            self.error = reply
+            self.error = self.request.refused(reply)
         else:
             self._value = self.request.read(reply)
         self.is_there = True
@@ -47,6 +52,17 @@ class Answer(Generic[T]):
     def __repr__(self) -> str:
         told = repr(self.error) if self.error is not None else repr(self._value) if self.is_there else "none yet"
         return f"<Answer: {told}>"
+
+
+def _check_told(asked: bytes, told: bytes, reply: Reply) -> None:
+    """What is told to a question has the question's code, and no reply to a request has such a code. Base alone is told of too many fork
+    points."""
+    if isinstance(reply, (Refused, NoMemory)):
+        is_wrong = isinstance(reply, TooMany) and reply.what == FORK_POINTS and asked != ASKS_BASE
+    else:
+        is_wrong = max(asked, told) >= FIRST_QUESTION and asked != told
+    if is_wrong:
+        raise ProtocolError(f"{reply!r} is no answer to what was asked")
 
 
 Note = Callable[[Request[Any], Reply], None]
@@ -106,6 +122,7 @@ class Conversation:
     def _give(self, body: bytes) -> None:
         reply = read_reply(body)
         answer = self._waiting[0]
+        _check_told(answer.request.body[:1], body[:1], reply)
         answer.give(reply)
         self._note(answer.request, reply)
         self._waiting.popleft()

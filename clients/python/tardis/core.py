@@ -1,52 +1,23 @@
 """All that a client does, without a socket. Each call is a list of steps: it yields the requests that are to be exchanged for
 their answers, and ends with what the call gives. `blocking` and `aio` are thin shells that exchange them."""
 
-from typing import Any, Dict, Generator, List, NamedTuple, Optional, Sequence, Tuple, TypeVar, Union
+from typing import Any, Dict, Generator, List, NamedTuple, Optional, Sequence, Tuple, Union
 
-from . import requests
+from . import looking, requests
 from .codes import RequestCode
 from .conversation import Answer, Conversation
-from .histories import Difference, History, Items, Records, State
+from .histories import Difference, History, Items, Records, State, at_or_above
 from .ids import ROOT, Bytes, StateId, state_id
-from .refusals import CeilingBack, Collected, NoMemory, Refused
+from .looking import Asking
+from .refusals import CeilingBack, Collected, NoMemory, Refused, Unsupported
 from .replies import Begun, Closed, Committed, Ended, Merging, Opened, Record, Reply, Shown, Stat, States
 from .requests import At, Request
+from .steps import AT_ONCE, Steps, ask, ask_all
 
-__all__ = ["Aside", "Core", "Finished", "Steps", "ask", "ask_all"]
+__all__ = ["Core", "Finished"]
 
-T = TypeVar("T")
-Steps = Generator[List[Answer[Any]], None, T]
-
-#: so many requests are asked at once where there are many
-AT_ONCE = 2_000
 #: old states that were never told of are looked for by so many of these
 MOST_ROUNDS = 25
-
-
-def ask(request: Request[T]) -> Steps[T]:
-    """Exchanges one request, and gives what it gives, or raises what was refused."""
-    answer = Answer(request)
-    yield [answer]
-    return answer.result()
-
-
-def ask_all(wanted: Sequence[Request[Any]]) -> Steps[List[Answer[Any]]]:
-    """Exchanges requests together, and gives the answers, refusals among them."""
-    answers: List[Answer[Any]] = [Answer(request) for request in wanted]
-    yield answers
-    return answers
-
-
-class Aside(List[Answer[Any]]):
-    """Requests that are to be exchanged over a connection of their own, which is closed again. Where there is none to be had, the
-    answers say so."""
-
-
-def ask_aside(wanted: Sequence[Request[Any]]) -> Steps[List[Answer[Any]]]:
-    """Exchanges requests in a session of their own: it may read at the site's floor, above the ceiling of this one."""
-    answers = Aside(Answer(request) for request in [requests.open_session(False), *wanted])
-    yield answers
-    return answers[1:]
 
 
 class Finished(NamedTuple):
@@ -83,6 +54,8 @@ class Core:
         self.ceiling: Optional[StateId] = None
         #: what was told of the history so far
         self.records = Records()
+        #: what questions were answered
+        self.asking = Asking()
 
     def _note(self, request: Request[Any], reply: Reply) -> None:
         """Sees each request and its reply."""
@@ -165,16 +138,8 @@ class Core:
 
     def show_all(self, states: Sequence[StateId]) -> Steps[Dict[StateId, Shown]]:
         """What is shown of these states; those that were collected are left out."""
-        found: Dict[StateId, Shown] = {}
-        for place in range(0, len(states), AT_ONCE):
-            part = states[place:place + AT_ONCE]
-            answers = yield from ask_all([requests.show(state) for state in part])
-            for state, answer in zip(part, answers):
-                if answer.error is None:
-                    found[state] = answer.result()
-                elif not isinstance(answer.error, Collected):
-                    raise answer.error
-        return found
+        answers = yield from ask_all([requests.show(state) for state in states])
+        return {state: answer.result() for state, answer in zip(states, answers) if not isinstance(answer.error, Collected)}
 
     def give_up(self) -> Steps[None]:
         """Aborts, where something is open."""
@@ -211,8 +176,12 @@ class Core:
                 self.records.forget(self.records.open)
                 return stat, news
 
-    def history(self) -> Steps[History]:
-        """All kept states. Where others commit meanwhile it is that of one moment in between, or asks once more."""
+    def history(self, state: Optional[At] = None) -> Steps[History]:
+        """All kept states, or those at or above this one. Where others commit meanwhile it is that of one moment in between, or asks
+        once more."""
+        chosen = None if state is None else state_id(state)
+        if chosen is not None:
+            yield from ask(requests.show(chosen))
         for _ in range(5):
             stat, _ = yield from self.pull_news()
             kept = yield from self._kept(stat)
@@ -221,6 +190,9 @@ class Core:
             if after == stat:
                 break
         states = yield from self._states(kept)
+        if chosen is not None:
+            above = at_or_above([chosen], {it.id: it for it in states})
+            states = [it for it in states if it.id in above]
         return History(states, leaves.first, stat, self.ceiling, self.records)
 
     def _kept(self, stat: Stat) -> Steps[Dict[StateId, Optional[Shown]]]:
@@ -258,8 +230,10 @@ class Core:
         """The kept states, those whose records were never told before the others, each with the kept states that lead to it."""
         records = self.records.records
         old = sorted((shown.arrival, id) for id, shown in kept.items() if id not in records and shown is not None)
+        told = yield from self.asking.records([id for _, id in old])
         ids = [*(id for _, id in old), *(id for id in records if id in kept)]
         leading = {id: self.records.leading(id, kept) for id in ids if id != ROOT}
+        leading.update({id: record.parents for id, record in told.items() if all(parent in kept for parent in record.parents)})
         unsure = [id for id, found in leading.items() if found is None]
         shows: Dict[StateId, Shown] = {id: shown for id, shown in kept.items() if shown is not None}
         if unsure:
@@ -268,25 +242,45 @@ class Core:
         for id in ids:
             found = leading.get(id, ())
             parents = _by_paths(id, shows) if found is None else found
-            record = records.get(id)
+            record = records.get(id) or told.get(id)
             states.append(State(id, tuple(parents), record.writes if record is not None else () if id == ROOT else None))
         return states
 
     def items(self, state: At, prefix: Bytes) -> Steps[Items]:
-        """The keys and values at a state, from what was pulled."""
+        """The keys and values at a state; where the server answers no questions, from what was pulled."""
         chosen = state_id(state)
+        try:
+            return Items((yield from looking.all_items(chosen, prefix)), True)
+        except Unsupported:
+            pass
         yield from ask(requests.show(chosen))
-        stat, _ = yield from self.pull_news()
-        history = History((), (), stat, None, self.records)
-        return history.items(chosen, prefix)
+        return (yield from self._pulled()).items(chosen, prefix)
+
+    def keys(self, state: At, prefix: Bytes) -> Steps[Tuple[bytes, ...]]:
+        """The keys at a state; where the server answers no questions, from what was pulled."""
+        try:
+            return (yield from looking.all_keys(state, prefix))
+        except Unsupported:
+            return (yield from self.items(state, prefix)).keys
 
     def diff(self, one: At, other: At) -> Steps[Tuple[Difference, ...]]:
-        """The keys that read differently at two states, from what was pulled."""
+        """The keys that read differently at two states; where the server answers no questions, from what was pulled."""
         first, second = state_id(one), state_id(other)
+        try:
+            here = dict((yield from looking.all_items(first, b"")))
+            there = dict((yield from looking.all_items(second, b"")))
+            return tuple(Difference(key, here.get(key), there.get(key)) for key in sorted({*here, *there})
+                         if here.get(key) != there.get(key))
+        except Unsupported:
+            pass
         for answer in (yield from ask_all([requests.show(first), requests.show(second)])):
             answer.result()
+        return (yield from self._pulled()).diff(first, second)
+
+    def _pulled(self) -> Steps[History]:
+        """What follows from all that the site gives by Pull."""
         stat, _ = yield from self.pull_news()
-        return History((), (), stat, None, self.records).diff(first, second)
+        return History((), (), stat, None, self.records)
 
     def news(self, seen: Optional[List[int]]) -> Steps[Tuple[List[int], List[State]]]:
         """What came since so many states of each site were seen; the first time, nothing. Of a state that was closed before it
@@ -298,5 +292,7 @@ class Core:
         counts = [max(line.count, known) for line, known in zip(stat.sites, self.records.counts(len(stat.sites)))]
         new = [StateId(site, sequence) for site, (old, count) in enumerate(zip(seen or counts, counts), 1)
                for sequence in range(old + 1, count + 1)]
-        missed = [State(id, (), None) for id in new if id not in self.records.records]
-        return counts, missed + [State(*self.records.records[id]) for id in self.records.in_order(new)]
+        missed = [id for id in new if id not in self.records.records]
+        told = yield from self.asking.records(missed)
+        return counts, [*(State(*told[id]) if id in told else State(id, (), None) for id in missed),
+                        *(State(*self.records.records[id]) for id in self.records.in_order(new))]

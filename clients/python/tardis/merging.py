@@ -2,16 +2,17 @@
 
 from typing import Any, Dict, List, NamedTuple, Optional, Sequence, Tuple
 
-from . import requests
+from . import questions, requests
 from .bases import value_together
 from .conversation import Answer
-from .core import Core, Steps, ask, ask_all, ask_aside
+from .core import Core
 from .ids import Bytes, StateId, state_id
 from .refusals import Below, Collected, Comparable, NoMemory, Refused, TooMany, Unknown as UnknownState
 from .replies import Committed, Keys, Read, States, Value
 from .requests import At, Request
 from .resolvers import (
     UNKNOWN, Base, Resolve, Sides, Unknown, is_asked_of_equal_sides, is_asked_of_fork_points, is_asked_of_many_sides)
+from .steps import Steps, ask, ask_all, ask_aside
 
 __all__ = ["Comparison", "Conflict", "Merged", "MergeStep", "compare", "merge"]
 
@@ -99,7 +100,7 @@ def compare(core: Core, one: At, other: At) -> Steps[Comparison]:
             yield from core.give_up()
     bases: Dict[bytes, Base] = {}
     for place in range(0, len(keys), MOST_READS):
-        bases.update((yield from merger._bases(keys[place:place + MOST_READS], forks)))
+        bases.update((yield from merger._bases(keys[place:place + MOST_READS], sides, forks)))
     return Comparison(sides, forks.first, tuple(Conflict(key, bases[key], told[key]) for key in keys))
 
 
@@ -198,7 +199,7 @@ class _Merger:
         if len(settled) == len(told):
             return (yield from self._commit([_writing(key, value) for key, value in settled.items()], keys.first))
         yield from self.core.give_up()
-        bases = yield from self._bases([key for key in told if key not in settled], forks)
+        bases = yield from self._bases([key for key in told if key not in settled], sides, forks)
         written = [
             _writing(key, settled[key] if key in settled else self.resolve(key, bases[key], side)) for key, side in told.items()]
         return (yield from self._commit(written, keys.first, beginning))
@@ -237,14 +238,17 @@ class _Merger:
 
     # what stood where they parted
 
-    def _bases(self, keys: Sequence[bytes], forks: States) -> Steps[Dict[bytes, Base]]:
-        """What each key had where the sides parted: read there, where the session may, else from what was pulled."""
+    def _bases(self, keys: Sequence[bytes], sides: Sequence[StateId], forks: States) -> Steps[Dict[bytes, Base]]:
+        """What each key had where the sides parted."""
         if not 1 <= forks.total <= MOST_FORKS:
             return {key: UNKNOWN for key in keys}
-        at_forks: List[Dict[bytes, Optional[Read]]] = []
-        for fork in forks.first:
-            at_forks.append((yield from self._read_at(fork, keys)))
-        bases = {key: _one_base([reads[key] for reads in at_forks]) for key in keys}
+        reads = yield from self._ask_base(keys, sides, forks)
+        if reads is None:
+            at_forks: List[Dict[bytes, Optional[Read]]] = []
+            for fork in forks.first:
+                at_forks.append((yield from self._read_at(fork, keys)))
+            reads = {key: [told[key] for told in at_forks] for key in keys}
+        bases = {key: _one_base(reads[key]) for key in keys}
         open_ones = [key for key in keys if bases[key] is UNKNOWN and is_asked_of_fork_points(self.resolve, key)]
         if open_ones and forks.total > 1:
             yield from self.core.pull_news()
@@ -252,9 +256,22 @@ class _Merger:
             bases.update({key: value_together(ancestry, self.resolve, key, forks.first) for key in open_ones})
         return bases
 
+    def _ask_base(self, keys: Sequence[bytes], sides: Sequence[StateId],
+                  forks: States) -> Steps[Optional[Dict[bytes, List[Optional[Read]]]]]:
+        """What each key reads where the sides parted, by the question Base, or at each of these states where there are more than it
+        tells of. None where the server answers neither."""
+        if forks.total <= MOST_STATES:
+            told = yield from self.core.asking.tell([questions.base(key, sides) for key in keys])
+            return None if told is None else {key: list(answer.result().values()) for key, answer in zip(keys, told)}
+        told = yield from self.core.asking.tell([questions.at(key, fork) for key in keys for fork in forks.first])
+        if told is None:
+            return None
+        reads: List[Optional[Read]] = [answer.result() for answer in told]
+        return {key: reads[place * forks.total:(place + 1) * forks.total] for place, key in enumerate(keys)}
+
     def _read_at(self, state: StateId, keys: Sequence[bytes]) -> Steps[Dict[bytes, Optional[Read]]]:
-        """What each key reads at a state, where that can be had: in this session, or from what was pulled, or in another session,
-        whose ceiling is the site's floor."""
+        """What each key reads at a state, where the server answers no questions and that can be had: in this session, or from what was
+        pulled, or in another session, whose ceiling is the site's floor."""
         asked: List[Request[Any]] = [requests.begin(state), *[requests.get(key) for key in keys], requests.abort()]
         answers = yield from ask_all(asked)
         if isinstance(answers[0].error, (Below, Collected, UnknownState)):

@@ -1,12 +1,12 @@
 """Requests that are gathered, and asked as one."""
 
-from typing import Any, List, Optional, Sequence, Tuple, TypeVar, Union
+from typing import Any, Dict, List, Optional, Sequence, Tuple, TypeVar, Union
 
-from . import requests
+from . import questions, requests
 from .conversation import Answer
 from .core import Core
 from .ids import Bytes, StateId
-from .replies import Committed, Ended, Keys, Raised, Read, Reply, Shown, Stat, States
+from .replies import About, Committed, Ended, Keys, Raised, Read, Recorded, Reply, Shown, Stat, States
 from .requests import At, Request
 
 __all__ = ["Pipeline"]
@@ -24,7 +24,7 @@ class Pipeline:
         self._merging = core.merging
 
     def ask(self, request: Request[T]) -> Answer[T]:
-        """Asks for any request of `tardis.requests`."""
+        """Asks for any request of `tardis.requests`, or question of `tardis.questions`."""
         answer = Answer(request)
         self.answers.append(answer)
         return answer
@@ -99,3 +99,15 @@ class Pipeline:
 
     def tidy(self, count: int = 65535) -> Answer[int]:
         return self.ask(requests.tidy(count))
+
+    def get_at(self, key: Bytes, state: At) -> Answer[Read]:
+        return self.ask(questions.at(key, state))
+
+    def record(self, state: At) -> Answer[Recorded]:
+        return self.ask(questions.record(state))
+
+    def base(self, key: Bytes, states: Sequence[At]) -> Answer[Dict[StateId, Read]]:
+        return self.ask(questions.base(key, states))
+
+    def about(self) -> Answer[About]:
+        return self.ask(questions.about())

@@ -6,6 +6,7 @@ connection is closed, and whether the last request was carried out isn't known.
 
 from typing import Dict, Tuple, Type
 
+from .codes import QuestionCode
 from .ids import StateId
 
 __all__ = [
@@ -16,6 +17,9 @@ __all__ = [
 ]
 
 Field = object
+
+#: what there may be too many of for a base to be told
+FORK_POINTS = "fork points"
 
 
 class ProtocolError(Exception):
@@ -128,6 +132,8 @@ class TooMany(Refused):
     def advice(self) -> str:
         if self.what == "states":
             return f"{self.count} states in a merge, which has at most 8: merge() takes several steps"
+        if self.what == FORK_POINTS:
+            return f"these states parted at {self.count} states, and a base is told of at most 8: read at each of them"
         return f"more than {self.count - 1} {self.what} in a transaction: commit, and go on in another"
 
 
@@ -348,7 +354,9 @@ class Unsupported(Refused):
         self.operation = operation
 
     def advice(self) -> str:
-        return f"this server doesn't carry out the operation {self.operation} for those who come here"
+        questions = {code.value: code.name.capitalize() for code in QuestionCode}
+        what = f"answer the question {questions[self.operation]}" if self.operation in questions else f"carry out the operation {self.operation}"
+        return f"this server doesn't {what} for those who come here"
 
 
 class NoSuchItem(Refused):

@@ -2,14 +2,14 @@
 
 from typing import Callable, Dict, NamedTuple, Optional, Tuple, TypeVar, Union
 
-from .codes import ReplyCode
+from .codes import AnswerCode, ReplyCode
 from .ids import StateId
-from .refusals import REFUSAL_OF, Branches, NoBranch, NoMemory, ProtocolError, Refused
+from .refusals import FORK_POINTS, REFUSAL_OF, Branches, NoBranch, NoMemory, ProtocolError, Refused
 
 __all__ = [
-    "Absent", "Applied", "Batch", "Begun", "Closed", "Committed", "Consent", "Deleted", "Done", "Early", "Ended", "Keys", "Known",
-    "Merging", "Opened", "Raised", "Read", "Record", "Reply", "Shown", "SiteLine", "Stat", "States", "Tidied", "Value", "Write",
-    "read_reply",
+    "About", "Absent", "Applied", "Batch", "Begun", "Closed", "Committed", "Consent", "Deleted", "Done", "Early", "Ended", "Entries",
+    "ForkReads", "Keys", "Known", "Limits", "Merging", "Opened", "Raised", "Read", "Record", "Recorded", "Reply", "SessionLine",
+    "Sessions", "Shown", "SiteLine", "Stat", "States", "Tidied", "Value", "Write", "read_reply",
 ]
 
 LONGEST_FRAME = 1_048_576
@@ -146,9 +146,68 @@ class Closed(NamedTuple):
 
 
 Read = Union[Value, Deleted, Absent]
+
+
+class Entries(NamedTuple):
+    """How many keys there are, and the first of them with their values: as many as have 65,536 bytes, but one at least."""
+    total: int
+    first: Tuple[Tuple[bytes, bytes], ...]
+
+
+class Recorded(NamedTuple):
+    """How many states had arrived before this one, its parents, those of its parents and of its children that are kept, and the
+    keys that it wrote."""
+    arrival: int
+    parents: Tuple[StateId, ...]
+    kept_parents: Tuple[StateId, ...]
+    kept_children: Tuple[StateId, ...]
+    keys: Tuple[bytes, ...]
+
+
+class ForkReads(NamedTuple):
+    """What is read of a key at each state where some states parted, in order of arrival."""
+    reads: Tuple[Tuple[StateId, Read], ...]
+
+
+class SessionLine(NamedTuple):
+    """An open session: its number, whether its ceiling follows its commits, its ceiling, its last commit, the states that its
+    transaction reads (none where none is open), and whether it holds the floor: that can't be raised past its ceiling."""
+    number: int
+    follow: bool
+    ceiling: StateId
+    last: StateId
+    reads: Tuple[StateId, ...]
+    holds: bool
+
+
+class Sessions(NamedTuple):
+    """Where the floor would stand if it were raised now, how many sessions are open, and the first 256 of them by their numbers."""
+    floor: StateId
+    total: int
+    first: Tuple[SessionLine, ...]
+
+
+class Limits(NamedTuple):
+    """The most sites, kept states, pairs of a fork path, sessions, and bytes of a trail."""
+    sites: int
+    kept: int
+    pairs: int
+    sessions: int
+    trail: int
+
+
+class About(NamedTuple):
+    """The version of the format, the limits, the site's own number, and how many states it knows and keeps."""
+    version: int
+    limits: Limits
+    own: int
+    known: int
+    kept: int
+
+
 Reply = Union[
     Opened, Begun, Merging, Value, Deleted, Absent, Done, Committed, Ended, States, Keys, Raised, Tidied, Stat, Shown, Batch, Applied,
-    Known, Early, Closed, Refused, NoMemory,
+    Known, Early, Closed, Refused, NoMemory, Entries, Recorded, ForkReads, Sessions, About,
 ]
 
 
@@ -184,6 +243,12 @@ class Reader:
     def ids(self, size: int) -> Tuple[StateId, ...]:
         """So many ids as a number of this size says."""
         return self.many(self.number(size), self.id)
+
+    def flag(self) -> bool:
+        read = self.number(1)
+        if read > 1:
+            raise ProtocolError(f"no flag has the value {read}")
+        return read == 1
 
     def end(self) -> None:
         if self.place != len(self.data):
@@ -238,7 +303,7 @@ def _what(r: Reader) -> str:
     return _WHAT[code]
 
 
-_WHAT = {1: "writes", 2: "reads", 3: "states"}
+_WHAT = {1: "writes", 2: "reads", 3: "states", 4: FORK_POINTS}
 
 
 def _branches(r: Reader) -> Refused:
@@ -248,7 +313,6 @@ def _branches(r: Reader) -> Refused:
     if code == 8:
         return Branches("at most k branches", state, children)
     raise ProtocolError(f"no constraint has the number {code}")
-
 
 
 _FIELDS: Dict[int, Callable[[Reader], Tuple[object, ...]]] = {
@@ -268,6 +332,28 @@ def _refusal(r: Reader) -> Refused:
     if code not in REFUSAL_OF:
         raise ProtocolError(f"no refusal has the number {code}")
     return REFUSAL_OF[code](*(_FIELDS[code](r) if code in _FIELDS else ()))
+
+
+# what is told to questions
+
+def _read(r: Reader) -> Read:
+    """What is read of a key: its latest writer, and what that one wrote."""
+    if not r.flag():
+        return Absent()
+    writer = r.id()
+    return Value(writer, r.value()) if r.flag() else Deleted(writer)
+
+
+def _recorded(r: Reader) -> Recorded:
+    return Recorded(r.number(8), r.ids(1), r.ids(1), r.ids(4), r.many(r.number(1), r.key))
+
+
+def _session_line(r: Reader) -> SessionLine:
+    return SessionLine(r.number(2), r.flag(), r.id(), r.id(), r.ids(1), r.flag())
+
+
+def _limits(r: Reader) -> Limits:
+    return Limits(r.number(2), r.number(4), r.number(4), r.number(2), r.number(8))
 
 
 _REPLIES: Dict[int, Callable[[Reader], Reply]] = {
@@ -293,6 +379,13 @@ _REPLIES: Dict[int, Callable[[Reader], Reply]] = {
     ReplyCode.CLOSED: lambda r: Closed(),
     ReplyCode.REFUSED: _refusal,
     ReplyCode.NO_MEMORY: lambda r: NoMemory(),
+    AnswerCode.READ: _read,
+    AnswerCode.KEYS: lambda r: Keys(r.number(4), r.many(r.number(2), r.key)),
+    AnswerCode.ENTRIES: lambda r: Entries(r.number(4), r.many(r.number(2), lambda: (r.key(), r.value()))),
+    AnswerCode.RECORD: _recorded,
+    AnswerCode.FORK_READS: lambda r: ForkReads(r.many(r.number(1), lambda: (r.id(), _read(r)))),
+    AnswerCode.SESSIONS: lambda r: Sessions(r.id(), r.number(4), r.many(r.number(2), lambda: _session_line(r))),
+    AnswerCode.SITE: lambda r: About(r.number(2), _limits(r), r.number(2), r.number(8), r.number(4)),
 }
 
 

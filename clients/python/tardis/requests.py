@@ -3,16 +3,17 @@
 import struct
 from typing import Callable, Generic, List, Optional, Sequence, Tuple, Type, TypeVar, Union
 
-from .codes import RequestCode
+from .codes import QuestionCode, RequestCode
 from .ids import Bytes, StateId, flag, key_bytes, number, prefix_bytes, state_id, value_bytes
-from .refusals import ProtocolError
+from .refusals import NoMemory, ProtocolError, Refused
 from .replies import (
     Absent, Applied, Batch, Begun, Closed, Committed, Deleted, Done, Early, Ended, Keys, Known, Merging, Opened, Raised, Read, Reply,
     Shown, Stat, States, Tidied, Value)
 
 __all__ = [
-    "Request", "abort", "begin", "begin_merge", "ceiling", "close", "commit", "conflicts", "delete", "deliver", "fork_points", "frame",
-    "get", "get_for", "leaves", "open_session", "pull", "put", "raise_floor", "raw", "settle", "show", "stat", "tidy",
+    "At", "Delivered", "Request", "abort", "begin", "begin_merge", "body_of", "ceiling", "close", "commit", "conflicts", "delete",
+    "deliver", "fork_points", "frame", "get", "get_for", "gives", "itself", "key_field", "leaves", "open_session", "pull", "put",
+    "raise_floor", "raw", "read_of", "settle", "show", "stat", "state_field", "tidy",
 ]
 
 T = TypeVar("T")
@@ -31,12 +32,16 @@ class Request(Generic[T]):
         self.body = body
         self.read = read
 
+    def refused(self, why: Union[Refused, NoMemory]) -> Union[Refused, NoMemory]:
+        """What is raised where it was refused."""
+        return why
+
 
 def _strange(reply: Reply) -> ProtocolError:
     return ProtocolError(f"{reply!r} is no answer to what was asked")
 
 
-def _gives(kind: Type[R], pick: Callable[[R], T]) -> Callable[[Reply], T]:
+def gives(kind: Type[R], pick: Callable[[R], T]) -> Callable[[Reply], T]:
     """Takes what is picked from a reply of this kind."""
     def read(reply: Reply) -> T:
         if not isinstance(reply, kind):
@@ -45,14 +50,14 @@ def _gives(kind: Type[R], pick: Callable[[R], T]) -> Callable[[Reply], T]:
     return read
 
 
-def _itself(kind: Type[R]) -> Callable[[Reply], R]:
-    return _gives(kind, lambda reply: reply)
+def itself(kind: Type[R]) -> Callable[[Reply], R]:
+    return gives(kind, lambda reply: reply)
 
 
-_done: Callable[[Reply], None] = _gives(Done, lambda reply: None)
+_done: Callable[[Reply], None] = gives(Done, lambda reply: None)
 
 
-def _read(reply: Reply) -> Read:
+def read_of(reply: Reply) -> Read:
     if isinstance(reply, (Value, Deleted, Absent)):
         return reply
     raise _strange(reply)
@@ -76,7 +81,7 @@ def _settled(reply: Reply) -> Union[Applied, Done]:
     raise _strange(reply)
 
 
-def _key(key: Bytes) -> bytes:
+def key_field(key: Bytes) -> bytes:
     data = key_bytes(key)
     return bytes([len(data)]) + data
 
@@ -86,12 +91,12 @@ def _value(value: Bytes) -> bytes:
     return struct.pack(">H", len(data)) + data
 
 
-def _id(state: At) -> bytes:
+def state_field(state: At) -> bytes:
     return struct.pack(">HI", *state_id(state))
 
 
-def _body(code: RequestCode, fields: bytes = b"") -> bytes:
-    """The body of a request: its code, and its fields."""
+def body_of(code: Union[RequestCode, QuestionCode], fields: bytes = b"") -> bytes:
+    """The body of a request or a question: its code, and its fields."""
     return bytes((code,)) + fields
 
 
@@ -108,15 +113,15 @@ def raw(body: bytes) -> "Request[Reply]":
 # sessions
 
 def open_session(follow: bool) -> "Request[StateId]":
-    return Request(_body(RequestCode.OPEN, bytes([flag("follow", follow)])), _gives(Opened, lambda reply: reply.ceiling))
+    return Request(body_of(RequestCode.OPEN, bytes([flag("follow", follow)])), gives(Opened, lambda reply: reply.ceiling))
 
 
 def close() -> "Request[None]":
-    return Request(_body(RequestCode.CLOSE), _gives(Closed, lambda reply: None))
+    return Request(body_of(RequestCode.CLOSE), gives(Closed, lambda reply: None))
 
 
 def ceiling(state: At) -> "Request[None]":
-    return Request(_body(RequestCode.CEILING, _id(state)), _done)
+    return Request(body_of(RequestCode.CEILING, state_field(state)), _done)
 
 
 # transactions
@@ -129,33 +134,33 @@ def begin(at: At) -> "Request[StateId]":
         kind = _BEGINS[at]
     else:
         try:
-            kind = b"\x03" + _id(at)
+            kind = b"\x03" + state_field(at)
         except ValueError as fault:
             raise ValueError(f"a transaction begins at 'any', 'ancestor', 'parent' or a state: {fault}") from None
-    return Request(_body(RequestCode.BEGIN, kind), _gives(Begun, lambda reply: reply.state))
+    return Request(body_of(RequestCode.BEGIN, kind), gives(Begun, lambda reply: reply.state))
 
 
 def get(key: Bytes) -> "Request[Read]":
-    return Request(_body(RequestCode.GET, _key(key)), _read)
+    return Request(body_of(RequestCode.GET, key_field(key)), read_of)
 
 
 def put(key: Bytes, value: Bytes) -> "Request[None]":
-    return Request(_body(RequestCode.PUT, _key(key) + _value(value)), _done)
+    return Request(body_of(RequestCode.PUT, key_field(key) + _value(value)), _done)
 
 
 def delete(key: Bytes) -> "Request[None]":
-    return Request(_body(RequestCode.DELETE, _key(key)), _done)
+    return Request(body_of(RequestCode.DELETE, key_field(key)), _done)
 
 
 def commit(serializable: bool, snapshot: bool, no_branch: bool, branches: Optional[int]) -> "Request[Union[Committed, Ended]]":
     flags = (flag("serializable", serializable) * 1 + flag("snapshot", snapshot) * 2 + flag("no_branch", no_branch) * 4
              + (branches is not None) * 8)
     most = 0 if branches is None else number("branches", branches, 1, 0xFFFF)
-    return Request(_body(RequestCode.COMMIT, struct.pack(">BH", flags, most)), _ended)
+    return Request(body_of(RequestCode.COMMIT, struct.pack(">BH", flags, most)), _ended)
 
 
 def abort() -> "Request[None]":
-    return Request(_body(RequestCode.ABORT), _done)
+    return Request(body_of(RequestCode.ABORT), _done)
 
 
 # merges
@@ -164,44 +169,44 @@ def begin_merge(states: Sequence[At]) -> "Request[Tuple[StateId, ...]]":
     """A merge of these states, or of all leaves where none is named."""
     if len(states) > 255:
         raise ValueError(f"at most 255 states can be named, and not {len(states):,}")
-    spelled = _body(RequestCode.BEGIN_MERGE, bytes([len(states)]) + b"".join(map(_id, states)))
-    return Request(spelled, _gives(Merging, lambda reply: reply.states))
+    spelled = body_of(RequestCode.BEGIN_MERGE, bytes([len(states)]) + b"".join(map(state_field, states)))
+    return Request(spelled, gives(Merging, lambda reply: reply.states))
 
 
 def fork_points() -> "Request[States]":
-    return Request(_body(RequestCode.FORK_POINTS), _itself(States))
+    return Request(body_of(RequestCode.FORK_POINTS), itself(States))
 
 
 def conflicts(after: Bytes) -> "Request[Keys]":
     behind = prefix_bytes(after)
-    return Request(_body(RequestCode.CONFLICTS, bytes([len(behind)]) + behind), _itself(Keys))
+    return Request(body_of(RequestCode.CONFLICTS, bytes([len(behind)]) + behind), itself(Keys))
 
 
 def get_for(key: Bytes, state: At) -> "Request[Read]":
-    return Request(_body(RequestCode.GET_FOR, _key(key) + _id(state)), _read)
+    return Request(body_of(RequestCode.GET_FOR, key_field(key) + state_field(state)), read_of)
 
 
 # the site
 
 def leaves() -> "Request[States]":
-    return Request(_body(RequestCode.LEAVES), _itself(States))
+    return Request(body_of(RequestCode.LEAVES), itself(States))
 
 
 def stat() -> "Request[Stat]":
-    return Request(_body(RequestCode.STAT), _itself(Stat))
+    return Request(body_of(RequestCode.STAT), itself(Stat))
 
 
 def show(state: At) -> "Request[Shown]":
-    return Request(_body(RequestCode.SHOW, _id(state)), _itself(Shown))
+    return Request(body_of(RequestCode.SHOW, state_field(state)), itself(Shown))
 
 
 def raise_floor(state: Optional[At]) -> "Request[Raised]":
-    return Request(_body(RequestCode.RAISE_AUTO) if state is None else _body(RequestCode.RAISE, _id(state)), _itself(Raised))
+    return Request(body_of(RequestCode.RAISE_AUTO) if state is None else body_of(RequestCode.RAISE, state_field(state)), itself(Raised))
 
 
 def tidy(count: int) -> "Request[int]":
-    spelled = _body(RequestCode.TIDY, struct.pack(">H", number("how many states are collected", count, 0, 0xFFFF)))
-    return Request(spelled, _gives(Tidied, lambda reply: reply.collected))
+    spelled = body_of(RequestCode.TIDY, struct.pack(">H", number("how many states are collected", count, 0, 0xFFFF)))
+    return Request(spelled, gives(Tidied, lambda reply: reply.collected))
 
 
 # other sites
@@ -210,14 +215,14 @@ def pull(counts: Sequence[int]) -> "Request[Batch]":
     if not 1 <= len(counts) <= 16:
         raise ValueError(f"there is a count for each of 1 to 16 sites, and not {len(counts)}")
     told: List[bytes] = [struct.pack(">I", number("a count", count, 0, 0xFFFFFFFF)) for count in counts]
-    return Request(_body(RequestCode.PULL, bytes([len(told)]) + b"".join(told)), _itself(Batch))
+    return Request(body_of(RequestCode.PULL, bytes([len(told)]) + b"".join(told)), itself(Batch))
 
 
 def deliver(item: bytes) -> "Request[Delivered]":
     if not isinstance(item, bytes):
         raise TypeError(f"an item is bytes, as a batch's items are, and not {type(item).__name__}")
-    return Request(_body(RequestCode.DELIVER, item), _delivered)
+    return Request(body_of(RequestCode.DELIVER, item), _delivered)
 
 
 def settle() -> "Request[Union[Applied, Done]]":
-    return Request(_body(RequestCode.SETTLE), _settled)
+    return Request(body_of(RequestCode.SETTLE), _settled)

@@ -6,6 +6,7 @@ Each is called as `resolve(key, base, sides)`. `sides` has for each side the val
 
 import difflib
 import enum
+import heapq
 from typing import Callable, Dict, Iterator, List, Mapping, Optional, Sequence, Set, Tuple, Union
 
 from .ids import Bytes, StateId, prefix_bytes
@@ -148,7 +149,8 @@ def _text(key: bytes, base: Base, sides: Sides) -> Optional[bytes]:
 
 
 #: A text, line by line: what some side inserted since the base is there, what some side took out is gone. So where two sides
-#: changed one line, both new ones are there, one after the other. A side that deleted the text gives way to one that changed it.
+#: changed one line, both new ones are there, one after the other; a line that both inserted between the same lines is there once. A
+#: side that deleted the text gives way to one that changed it.
 three_way_text: Resolve = ReadyMade(_text)
 
 
@@ -165,6 +167,10 @@ def _either(one: Sequence[bytes], other: Sequence[bytes]) -> Iterator[bytes]:
         yield from one[a:b]
         if tag != "equal":
             yield from other[c:d]
+
+
+#: a line that was inserted, and behind how many of the base's lines
+_Placed = Tuple[int, bytes]
 
 
 class _Changes:
@@ -184,12 +190,25 @@ class _Changes:
 
 
 def _three_ways(base: Sequence[bytes], one: Sequence[bytes], other: Sequence[bytes]) -> Iterator[bytes]:
-    """The base's lines that both kept, and between them what either inserted."""
+    """The base's lines that both kept, and between two of them what either inserted."""
     first, second = _Changes(base, one), _Changes(base, other)
+    ones: List[_Placed] = []
+    others: List[_Placed] = []
     for place in range(len(base) + 1):
-        yield from _either(first.inserted.get(place, ()), second.inserted.get(place, ()))
-        if place < len(base) and first.kept[place] and second.kept[place]:
-            yield base[place]
+        ones.extend((place, line) for line in first.inserted.get(place, ()))
+        others.extend((place, line) for line in second.inserted.get(place, ()))
+        if place == len(base) or first.kept[place] and second.kept[place]:
+            yield from _together(ones, others)
+            ones, others = [], []
+            yield from base[place:place + 1]
+
+
+def _together(one: Sequence[_Placed], other: Sequence[_Placed]) -> Iterator[bytes]:
+    """What both inserted between two lines that both kept: a line that both have once, and the others by their places in the base."""
+    matcher = difflib.SequenceMatcher(None, [line for _, line in one], [line for _, line in other], autojunk=False)
+    for tag, a, b, c, d in matcher.get_opcodes():
+        placed = one[a:b] if tag == "equal" else heapq.merge(one[a:b], other[c:d], key=lambda line: line[0])
+        yield from (line for _, line in placed)
 
 
 class _ByPrefix:

@@ -1,5 +1,6 @@
 """A site of one, after `docs/MODEL.md`, that answers frames over a Unix socket: the tests' double of a server, where none is
-built. It refuses what sites refuse most often, and holds no limits but those of a transaction and a merge."""
+built. It refuses what sites refuse most often, and holds no limits but those of a transaction and a merge. It answers questions,
+unless it is told not to: then they are malformed, as to every server but `tardisd`."""
 
 import itertools
 import os
@@ -9,7 +10,7 @@ import threading
 
 ROOT = (0, 0)
 NOT_OPEN, ALREADY_OPEN, TXN_OPEN, NO_TXN, WRONG_MODE, TOO_MANY, UNKNOWN, BELOW, COMPARABLE, NOT_READ, CONFLICT_KEY, OPEN_CONFLICT, BRANCHES, \
-    CEILING_BACK, FLOOR_BACK, HELD, COLLECTED = 2, 3, 5, 6, 7, 8, 9, 10, 11, 12, 13, 14, 15, 16, 17, 18, 19
+    CEILING_BACK, FLOOR_BACK, HELD, COLLECTED, BAD_SITE = 2, 3, 5, 6, 7, 8, 9, 10, 11, 12, 13, 14, 15, 16, 17, 18, 19, 23
 
 
 def spelled(id):
@@ -64,7 +65,8 @@ class Fields:
 class Model:
     """The site's step."""
 
-    def __init__(self):
+    def __init__(self, answers_questions=True):
+        self.answers_questions = answers_questions
         self.parents, self.writes, self.children, self.above, self.arrival = {ROOT: ()}, {ROOT: {}}, {ROOT: []}, {ROOT: frozenset([ROOT])}, {ROOT: 0}
         self.order, self.collected, self.sessions, self.floor, self.number = [ROOT], set(), {}, ROOT, 0
 
@@ -125,7 +127,7 @@ class Model:
             fields = Fields(body)
             code = fields.number(1)
             made = getattr(self, "do_%d" % code, None)
-            if made is None:
+            if made is None or code >= 64 and not self.answers_questions:
                 raise Refusal(1)
             reply = made(actor, fields)
             return reply
@@ -293,9 +295,12 @@ class Model:
                 raise Refusal(HELD, struct.pack(">H", number) + spelled(session.ceiling))
         return self.raise_to(state)
 
+    def next_floor(self):
+        return [id for id in self.order if self.is_above(self.floor, id) and all(
+            self.is_above(id, session.ceiling) for session in self.sessions.values())][-1]
+
     def do_14(self, actor, fields):
-        return self.raise_to([id for id in self.order if self.is_above(self.floor, id) and all(
-            self.is_above(id, session.ceiling) for session in self.sessions.values())][-1])
+        return self.raise_to(self.next_floor())
 
     def stand_in(self, id):
         while id in self.collected:
@@ -332,6 +337,8 @@ class Model:
 
     def do_19(self, actor, fields):
         counts = [fields.number(4) for _ in range(fields.number(1))]
+        if len(counts) != 1:
+            raise Refusal(BAD_SITE, struct.pack(">H", len(counts)))
         told = [id for id in self.order[1:] if id[1] > counts[0] and not self.is_above(id, self.floor)]
         records = b""
         for count, id in enumerate(told):
@@ -353,12 +360,81 @@ class Model:
     def do_22(self, actor, fields):
         return b"\x07"
 
+    # questions
+
+    def kept(self, *states):
+        for code, is_so in (UNKNOWN, lambda state: state not in self.parents), (COLLECTED, lambda state: state in self.collected):
+            for state in states:
+                if is_so(state):
+                    raise Refusal(code, spelled(state))
+
+    def found(self, key, state):
+        writer = self.writer(key, state)
+        if writer is None:
+            return b"\x00"
+        value = self.writes[writer][key]
+        return b"\x01" + spelled(writer) + (b"\x00" if value is None else b"\x01" + value_of(value))
+
+    def do_64(self, actor, fields):
+        state, key = fields.id(), fields.key()
+        self.kept(state)
+        return b"\x40" + self.found(key, state)
+
+    def contents(self, fields):
+        """The keys that a page is asked of, with their values."""
+        state, prefix, after = fields.id(), fields.key(), fields.key()
+        self.kept(state)
+        read = {key: self.writes[self.writer(key, state)][key] for id in self.above[state] for key in self.writes[id]}
+        return sorted((key, value) for key, value in read.items() if value is not None and key.startswith(prefix) and key > after)
+
+    def do_65(self, actor, fields):
+        keys = [key for key, _ in self.contents(fields)]
+        return b"\x41" + struct.pack(">IH", len(keys), len(keys[:256])) + b"".join(map(key_of, keys[:256]))
+
+    def do_66(self, actor, fields):
+        entries = [key_of(key) + value_of(value) for key, value in self.contents(fields)]
+        page, room = entries[:1], 65_536 - sum(map(len, entries[:1]))
+        for entry in entries[1:]:
+            room -= len(entry)
+            if room < 0:
+                break
+            page.append(entry)
+        return b"\x42" + struct.pack(">IH", len(entries), len(page)) + b"".join(page)
+
+    def do_67(self, actor, fields):
+        state = fields.id()
+        self.kept(state)
+        parents, children = sorted(self.parents[state]), self.children[state]
+        kept = [[id for id in ids if id not in self.collected] for ids in (parents, children)]
+        keys = sorted(self.writes[state])
+        return b"\x43" + struct.pack(">QB", self.arrival[state], len(parents)) + b"".join(map(spelled, parents)) \
+            + bytes([len(kept[0])]) + b"".join(map(spelled, kept[0])) + struct.pack(">I", len(kept[1])) + b"".join(map(spelled, kept[1])) \
+            + bytes([len(keys)]) + b"".join(map(key_of, keys))
+
+    def do_68(self, actor, fields):
+        states, key = [fields.id() for _ in range(fields.number(1))], fields.key()
+        self.kept(*states)
+        forks = self.shared(states)
+        if len(forks) > 8:
+            raise Refusal(TOO_MANY, b"\x04" + struct.pack(">I", len(forks)))
+        return b"\x44" + bytes([len(forks)]) + b"".join(spelled(fork) + self.found(key, fork) for fork in forks)
+
+    def do_69(self, actor, fields):
+        after, floor = fields.number(2) if fields.number(1) else -1, self.next_floor()
+        lines = [struct.pack(">HB", number, session.follow) + spelled(session.ceiling) + spelled(session.last)
+                 + (b"\x00" if session.txn is None else bytes([len(session.txn.states)]) + b"".join(map(spelled, session.txn.states)))
+                 + bytes([session.ceiling == floor]) for number, session in sorted(self.sessions.items()) if number > after]
+        return b"\x45" + spelled(floor) + struct.pack(">IH", len(lines), len(lines[:256])) + b"".join(lines[:256])
+
+    def do_70(self, actor, fields):
+        return b"\x46" + struct.pack(">HHIIHQHQI", 1, 1, 16_384, 4_096, 256, 1 << 30, 1, len(self.order), len(self.order) - len(self.collected))
+
 
 class ModelServer:
     """Serves a model to all that come, a thread each."""
 
-    def __init__(self, path):
-        self.model, self.lock, self.actors = Model(), threading.Lock(), itertools.count(1)
+    def __init__(self, path, answers_questions=True):
+        self.model, self.lock, self.actors = Model(answers_questions), threading.Lock(), itertools.count(1)
         self.links = []
         if os.path.exists(path):
             os.unlink(path)

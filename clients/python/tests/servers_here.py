@@ -62,6 +62,8 @@ class OverServers(unittest.TestCase):
 class OfTardisd:
     """Against `tardisd`."""
 
+    answers_questions = True
+
     def start(self, address):
         if not is_built(TARDISD):
             raise unittest.SkipTest("tardisd isn't built")
@@ -70,6 +72,8 @@ class OfTardisd:
 
 class OfServe:
     """Against `tardis serve`."""
+
+    answers_questions = False
 
     def start(self, address):
         if not is_built(TARDIS):
@@ -80,11 +84,19 @@ class OfServe:
 class OfModel:
     """Against the model in Python."""
 
+    answers_questions = True
+
     def start(self, address):
         if not address.startswith("unix:"):
             raise unittest.SkipTest("the model listens at a path")
-        return ModelServer(address[len("unix:"):])
+        return ModelServer(address[len("unix:"):], self.answers_questions)
 
 
-__all__ = ["CLIENT", "HERE", "OfModel", "OfServe", "OfTardisd", "OverServers", "PATIENCE", "TARDIS", "TARDISD", "TOP", "free_port", "is_built",
+class OfOldModel(OfModel):
+    """Against the model, which answers no questions."""
+
+    answers_questions = False
+
+
+__all__ = ["CLIENT", "HERE", "OfModel", "OfOldModel", "OfServe", "OfTardisd", "OverServers", "PATIENCE", "TARDIS", "TARDISD", "TOP", "free_port", "is_built",
            "tardis"]

@@ -6,7 +6,7 @@ import pickle
 import threading
 import unittest
 
-from servers_here import PATIENCE, OfModel, OfServe, OfTardisd, OverServers, free_port, tardis
+from servers_here import PATIENCE, OfModel, OfOldModel, OfServe, OfTardisd, OverServers, free_port, tardis
 
 import tardis.aio  # noqa: E402
 
@@ -256,9 +256,12 @@ class Calls(OverServers):
         leaf = StateId(1, 6)
         history = viewer.history()
         self.assertEqual([(state.id, state.parents) for state in history], [(fork, ()), (txn.committed, (fork,)), (leaf, (fork,))])
-        self.assertEqual((history[fork].writes, history[leaf].keys, len(history)), (None, (b"x",), site.stat().kept))
+        # what a state wrote whose record was never given is told to a question alone, and so are keys of collected states
+        writes = (tardis.Write(b"x", b"4"),) if self.answers_questions else None
+        self.assertEqual((history[fork].writes, history[leaf].keys, len(history)), (writes, (b"x",), site.stat().kept))
+        self.assertEqual([state.id for state in viewer.history(leaf)], [fork, leaf])
         self.assertTrue(history.is_above(fork, leaf) and not history.is_above(txn.committed, leaf))
-        self.assertEqual(viewer.items(leaf), tardis.Items(((b"x", b"beside"),), False))
+        self.assertEqual(viewer.items(leaf), tardis.Items(((b"x", b"beside"),), self.answers_questions))
 
     def test_a_merge_that_cannot_be_resolved_changes_nothing(self):
         one, other = self.two()
@@ -487,6 +490,10 @@ class Serve(OfServe, Calls):
 
 
 class Model(OfModel, Calls):
+    test_over_tcp = None
+
+
+class OldModel(OfOldModel, Calls):
     test_over_tcp = None
 
 

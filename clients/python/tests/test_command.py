@@ -6,6 +6,7 @@ import re
 import select
 import subprocess
 import sys
+import tempfile
 import time
 import unittest
 import urllib.error
@@ -14,6 +15,7 @@ import xml.dom.minidom
 
 from servers_here import CLIENT, PATIENCE, OfModel, OfTardisd, OverServers, tardis
 
+from tardis.exports import write_export  # noqa: E402
 from tardis.layout import lay_out  # noqa: E402
 from tardis.pictures import word  # noqa: E402
 
@@ -82,6 +84,42 @@ class Command(OverServers):
         self.run_it("get", self.address, "cart", status=1)
         self.assertEqual(self.errors, "tardis: cart has no value at 1.7: 1.7 deleted it\n")
         self.assertEqual(self.connect().stat().sessions, 0)
+
+    def test_exporting(self):
+        self.fork()
+        # what was written above is there, in order; and to a file the same
+        spelled = bytes.fromhex("0000000000000003" "04" + b"cart".hex() + "0008" + b"tea,milk".hex() + "01" + b"n".hex() + "0001" + b"1".hex() + "01ff0000")
+        path = os.path.join(self.folder, "out")
+        self.assertEqual(self.run_it("export", self.address, "--at", "1.2", "--out", path), path + " has 3 keys of 1.2\n")
+        with open(path, "rb") as file:
+            self.assertEqual(file.read(), spelled)
+        # nothing is written where it can't be whole, and the file that was there stays
+        for words, told in [
+                ([], "tardis: there are 2 leaves, 1.2, 1.3: give --at STATE, or merge them first\n"),
+                (["--at", "1.9"], "tardis: unknown: this site doesn't know the state 1.9")]:
+            self.assertEqual(self.run_it("export", self.address, "--out", path, *words, status=1), "")
+            self.assertTrue(self.errors.startswith(told), self.errors)
+        with open(path, "rb") as file:
+            self.assertEqual(file.read(), spelled)
+        with tempfile.TemporaryFile() as file, self.connect() as site:
+            file.write(b"before")
+            self.assertEqual(write_export(site, "1.2", file), 3)
+            file.write(b"behind")
+            file.seek(0)
+            self.assertEqual(file.read(), b"before" + spelled + b"behind")
+        # of the one leaf, to standard output
+        one = self.connect()
+        one.open()
+        one.merge(tardis.last_writer)
+        made = subprocess.run([sys.executable, "-m", "tardis", "export", self.address], cwd=CLIENT, stdout=subprocess.PIPE, timeout=60)
+        self.assertEqual((made.returncode, made.stdout), (0, spelled.replace(b"\0\x08tea,milk", b"\0\x07tea,jam")))
+        # who is there, and holds the floor
+        while one.stat().sessions > 1:
+            pass
+        told = self.run_it("sessions", self.address).splitlines()
+        self.assertEqual(told[0], "1 open; raised now, the floor would stand at 0.0")
+        self.assertRegex(told[1], r"^session \d+: ceiling 0.0, last commit 1.4 \(holds the floor\)$")
+        self.assertIs(json.loads(self.run_it("sessions", self.address, "--json"))["sessions"][0]["holds"], True)
 
     def test_what_is_wrong_is_told_in_a_line(self):
         self.serve()

@@ -193,6 +193,12 @@ class Resolvers(unittest.TestCase):
             (tardis.three_way_text, b"x\n", (None, b"y\n"), b"y\n"), (tardis.three_way_text, b"a\nb\n", (b"a\nb\nc\n", b"b\n"), b"b\nc\n"),
             (tardis.three_way_text, None, (b"a\nb\n", b"a\nc\n"), b"a\nb\nc\n"), (tardis.three_way_text, tardis.UNKNOWN, (b"a\nb", b"a\nb\nc"), b"a\nb\nc"),
             (tardis.three_way_text, b"1\n2\n3\n4\n", (b"1\n2\n3\n4\n5\n", b"0\n1\n2\n4\n", b"1\n2\n3\n4\n"), b"0\n1\n2\n4\n5\n"),
+            # each changed a line, whichever side comes first; and what both inserted is there once, where one took out lines around it
+            (tardis.three_way_text, b"a\nb", (b"a\nB", b"A\nb"), b"A\nB"),
+            (tardis.three_way_text, b"a\nb\nc", (b"a\nnew\nb\nc", b"new\nB\nc"), b"new\nB\nc"),
+            (tardis.three_way_text, b"a\nb\nc", (b"new\nB\nc", b"a\nnew\nb\nc"), b"new\nB\nc"),
+            (tardis.three_way_text, b"a\nb\nc\n", (b"a\nb\none\nsame\nc\n", b"a\nsame\nC\n"), b"a\none\nsame\nC\n"),
+            (tardis.three_way_text, b"a\n", (b"a\nsame\n", b"a\nsame\n"), b"a\nsame\n"),
             (tardis.by_prefix({"n": tardis.counter, "": tardis.last_writer}), b"1", (b"2", b"3"), b"3"),
         ]
         for resolve, base, values, want in rows:
