@@ -158,15 +158,14 @@ unplanned_unwritten words end why is =
 
 pub unplanned_serves : {D P S O : Type 0} (opens : List DoorAt → Result P GateFault → Type 0) (seen : P → Option (List Seen)) (old : D) (was : S) (before : O)
     (words : List (List ℕ)) (end : DaemonEnd) → Unplanned words end → Serves opens seen old old was was before before words end
-unplanned_serves opens seen old was before words end why = λ asked is file. (inl (unplanned_some words end asked why is, refl), (refl, refl))
+unplanned_serves opens seen old was before words end why = λ asked is file. (inl (unplanned_some words end asked why is, refl), refl, refl)
 
 pub unplanned_keeps : {D P S K O : Type 0} (opens : List DoorAt → Result P GateFault → Type 0) (seen : P → Option (List Seen)) (st : AStore S K) (k : ADisk K)
     (life : List ℕ) (old : D) (was : S) (before : O) (words : List (List ℕ)) (end : DaemonEnd) → Unplanned words end
     → KeepsFile opens seen st k life old old was was before before words end
 unplanned_keeps opens seen st k life old was before words end why =
     λ asked path is filed.
-    let nothing = record { end_is = unplanned_some words end asked why is; no_edge = refl; no_file = refl } in
-    (record { became = inl nothing; still = λ h. h }, refl)
+    (record { became = inl (record { end_is = unplanned_some words end asked why is; no_edge = refl; no_file = refl }); still = λ h. h }, refl)
 
 -- what is asked for help is no answer to words that ask for none
 pub unasked : {A : Type 0} (a : A) → ◌≡◌ {A = Option A} None (Some a) → ⊥

@@ -18,12 +18,13 @@ returns-in-Ok-clause-keep g c =
 pub returns-in-Err-clause-usage : goal.returns-in-Err-clause-usage
 returns-in-Err-clause-usage g c = λ is. (
   unplanned_usage (map (λ w. string_bytes w) c.args.words.now) c.in-Err.refused c.in-Err.ensures.refused is,
-  (λ ask. unasked Usage (c.in-None.ensures.usage.1 ask), λ ask. unasked Version (c.in-None.ensures.version.1 ask)),
+  λ ask. unasked Usage (c.in-None.ensures.usage.1 ask),
+  λ ask. unasked Version (c.in-None.ensures.version.1 ask),
 )
 
 pub returns-in-Err-clause-none : goal.returns-in-Err-clause-none
 returns-in-Err-clause-none g c = λ none.
-    (unplanned_none (map (λ w. string_bytes w) c.args.words.now) c.in-Err.refused c.in-Err.ensures.refused none.0, (refl, (refl, refl)))
+    (unplanned_none (map (λ w. string_bytes w) c.args.words.now) c.in-Err.refused c.in-Err.ensures.refused none.0, refl, refl, refl)
 
 pub returns-in-Err-clause-write : goal.returns-in-Err-clause-write
 returns-in-Err-clause-write g c = λ is.
