@@ -191,12 +191,11 @@ def export_all(load, address, folder, exported, faults):
             with tardis.connect(address, PATIENCE) as keeper:
                 state = keep(keeper)
                 load.wait_for(4 * BETWEEN)
+                exported["before"] = keeper.about()
                 is_by_command = place >= ROUNDS - BY_COMMAND
                 exported[state] = by_command(load, address, state, folder) if is_by_command else by_code(load, address, state)
                 # others have gone on below it meanwhile, and it is kept still
                 assert keeper.record(state).kept_children or keeper.leaves().total > 1
-        with tardis.connect(address, PATIENCE) as site:
-            exported["about"] = site.about()
     except BaseException as fault:
         faults.append(fault)
     finally:
@@ -318,15 +317,15 @@ def main():
     folder = tempfile.mkdtemp()
     try:
         load, exported = load_and_export(tardisd, folder)
-        about = exported.pop("about")
+        before = exported.pop("before")
         assert len(set(exported.values())) == ROUNDS, "two exports are the same"
-        assert about.kept < about.known, "nothing was collected"
+        assert before.kept < before.known, "nothing was collected before the last of them"
         compare(program, trail_of(load.asked), exported)
     finally:
         shutil.rmtree(folder)
-    forks = sum(1 for lines in load.asked for body, reply in lines if isinstance(reply, replies.Committed) and len(reply.parents) > 1)
+    merged = sum(1 for lines in load.asked for body, reply in lines if isinstance(reply, replies.Committed) and len(reply.parents) > 1)
     print("%d exports of %s under load are those of the trail: %d commits and %d merges, %d of %d states were collected" % (
-        len(exported), ", ".join(map(str, exported)), load.made - forks, forks, about.known - about.kept, about.known))
+        len(exported), ", ".join(map(str, exported)), load.made - merged, merged, before.known - before.kept, before.known))
 
 
 if __name__ == "__main__":

@@ -32,7 +32,7 @@ from .replies import (
 from .resolvers import (
     UNKNOWN, Base, Resolve, Sides, by_prefix, counter, last_writer, merge_text, three_way_text, union_of, union_of_lines)
 
-__version__ = "0.2.0"
+__version__ = "0.3.0"
 
 __all__ = [
     "About", "Absent", "AlreadyOpen", "Answer", "Applied", "BadSite", "BagFull", "Base", "Batch", "Begun", "Below",

@@ -4,7 +4,7 @@ import contextlib
 import os
 import shutil
 import struct
-from typing import BinaryIO
+from typing import IO
 
 from .blocking import Site
 from .requests import At
@@ -12,7 +12,7 @@ from .requests import At
 __all__ = ["put_in_place", "write_export"]
 
 
-def write_export(site: Site, state: At, file: BinaryIO) -> int:
+def write_export(site: Site, state: At, file: IO[bytes]) -> int:
     """Writes the export of a state to a file that can seek, from its place on, and tells how many keys it has. Where the state is
     collected meanwhile (`Collected`), or anything else goes wrong, what was written is no export. A session that is open, and
     that may begin at the state, keeps it."""
@@ -29,7 +29,7 @@ def write_export(site: Site, state: At, file: BinaryIO) -> int:
     return count
 
 
-def put_in_place(whole: BinaryIO, path: str) -> None:
+def put_in_place(whole: IO[bytes], path: str) -> None:
     """Copies what is whole to the path. A file that stood there stays as it was until the new one is on the disk."""
     whole.seek(0)
     place = os.path.realpath(path)

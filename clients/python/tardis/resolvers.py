@@ -7,7 +7,7 @@ Each is called as `resolve(key, base, sides)`. `sides` has for each side the val
 import difflib
 import enum
 import heapq
-from typing import Callable, Dict, Iterator, List, Mapping, Optional, Sequence, Set, Tuple, Union
+from typing import Callable, Dict, Iterable, Iterator, List, Mapping, Optional, Sequence, Set, Tuple, Union
 
 from .ids import Bytes, StateId, prefix_bytes
 from .refusals import Unresolved
@@ -207,7 +207,7 @@ def _together(one: Sequence[_Placed], other: Sequence[_Placed]) -> Iterator[byte
     """What both inserted between two lines that both kept: a line that both have once, and the others by their places in the base."""
     matcher = difflib.SequenceMatcher(None, [line for _, line in one], [line for _, line in other], autojunk=False)
     for tag, a, b, c, d in matcher.get_opcodes():
-        placed = one[a:b] if tag == "equal" else heapq.merge(one[a:b], other[c:d], key=lambda line: line[0])
+        placed: Iterable[_Placed] = one[a:b] if tag == "equal" else heapq.merge(one[a:b], other[c:d], key=lambda line: line[0])
         yield from (line for _, line in placed)
 
 
