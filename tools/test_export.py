@@ -267,7 +267,7 @@ def compare(program, trail, exported):
         # (a session opens at the floor, which only the server's upkeep moved)
         assert body[0] == 1 or reply == other, "request %d, %s of client %d: %r, and then %r" % (place, body.hex(), client, reply, other)
     for state, contents in exported.items():
-        assert contents == run(program, ["export", "--at", str(state)], frames), "the export of %s isn't that of the trail" % state
+        assert contents == run(program, ["export", "--at", str(state)], frames), f"the export of {state} isn't that of the trail"
 
 
 # the whole

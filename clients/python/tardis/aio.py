@@ -21,7 +21,7 @@ from .conversation import Answer, Conversation
 from .core import Core, Finished
 from .histories import Difference, History, Items, State
 from .ids import Bytes, StateId, number, prefix_bytes
-from .looking import Walk, all_sessions, last_entry
+from .looking import all_sessions, last_entry
 from .merging import Comparison, Merged, compare, merge
 from .pipelines import Pipeline
 from .refusals import Branches, Disconnected, NoTxn, ProtocolError
@@ -382,8 +382,7 @@ class Site:
         return await self._run(ask(questions.base(key, states)))
 
     async def walk(self, state: Optional[At] = None) -> AsyncIterator[State]:
-        walk = Walk(state)
-        await self._run(walk.begin())
+        walk = await self._run(self._core.walk(state))
         found = await self._run(walk.next())
         while found is not None:
             yield found

@@ -14,7 +14,7 @@ from .conversation import Answer
 from .core import Core, Finished
 from .histories import Difference, History, Items, State
 from .ids import Bytes, StateId, number, prefix_bytes
-from .looking import Walk, all_sessions, last_entry
+from .looking import all_sessions, last_entry
 from .merging import Comparison, Merged, compare, merge
 from .pipelines import Pipeline
 from .refusals import Branches, Disconnected, NoTxn, ProtocolError
@@ -398,10 +398,8 @@ class Site:
 
     def walk(self, state: Optional[At] = None) -> Iterator[State]:
         """Yields the kept states from this one on upwards, or from the leaves on, the newest first. Each has all its parents, also
-        those that were collected; behind such it goes on at the forks above. Of more than 256 leaves it begins at the 256 that a
-        site lists, and at the newest state of each site."""
-        walk = Walk(state)
-        self._run(walk.begin())
+        those that were collected; behind such it goes on at the forks above."""
+        walk = self._run(self._core.walk(state))
         found = self._run(walk.next())
         while found is not None:
             yield found

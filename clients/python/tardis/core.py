@@ -8,7 +8,7 @@ from .codes import RequestCode
 from .conversation import Answer, Conversation
 from .histories import Difference, History, Items, Records, State, at_or_above
 from .ids import ROOT, Bytes, StateId, state_id
-from .looking import Asking
+from .looking import Asking, Walk
 from .refusals import CeilingBack, Collected, NoMemory, Refused, Unsupported
 from .replies import Begun, Closed, Committed, Ended, Merging, Opened, Record, Reply, Shown, Stat, States
 from .requests import At, Request
@@ -245,6 +245,25 @@ class Core:
             record = records.get(id) or told.get(id)
             states.append(State(id, tuple(parents), record.writes if record is not None else () if id == ROOT else None))
         return states
+
+    def walk(self, state: Optional[At]) -> Steps[Walk]:
+        """A walk that begins at this state, or at all leaves."""
+        walk = Walk()
+        if state is not None:
+            yield from walk.begin(state)
+        else:
+            yield from walk.reach((yield from self._all_leaves()))
+        return walk
+
+    def _all_leaves(self) -> Steps[Sequence[StateId]]:
+        """The leaves, and where the site lists only some, perhaps other states too: a leaf is a floor, or its record is given by Pull."""
+        leaves = yield from ask(requests.leaves())
+        if len(leaves.first) == leaves.total:
+            return leaves.first
+        yield from self.pull_news()
+        records = self.records
+        parents = {parent for id in records.open for parent in records.records[id].parents}
+        return [*(id for id in records.open if id not in parents), *records.open_floors]
 
     def items(self, state: At, prefix: Bytes) -> Steps[Items]:
         """The keys and values at a state; where the server answers no questions, from what was pulled."""

@@ -108,24 +108,17 @@ def _writes_of(told: Dict[StateId, Recorded]) -> Steps[Dict[StateId, Tuple[Write
 
 
 class Walk:
-    """The kept states from one on upwards, or from the leaves on, the newest first."""
+    """The kept states from some on upwards, the newest first."""
 
-    def __init__(self, start: Optional[At]) -> None:
-        self._start = None if start is None else state_id(start)
+    def __init__(self) -> None:
         self._reached: Set[StateId] = set()
         self._left: List[Tuple[int, StateId, Recorded]] = []
 
-    def begin(self) -> Steps[None]:
-        if self._start is not None:
-            told = yield from ask(questions.record(self._start))
-            self._push(self._start, told)
-            return
-        leaves = yield from ask(requests.leaves())
-        newest: List[StateId] = []
-        if leaves.total > len(leaves.first):
-            stat = yield from ask(requests.stat())
-            newest = [StateId(site, line.count) for site, line in enumerate(stat.sites, 1) if line.count]
-        yield from self._reach([*leaves.first, *newest])
+    def begin(self, state: At) -> Steps[None]:
+        """Begins at a state, or raises why that can't be told of."""
+        start = state_id(state)
+        told = yield from ask(questions.record(start))
+        self._push(start, told)
 
     def next(self) -> Steps[Optional[State]]:
         """The newest of those that are left; None where none is. Its parents are all that it has, also those that were collected."""
@@ -134,12 +127,13 @@ class Walk:
             above = list(told.kept_parents)
             if len(above) < len(told.parents):
                 above += yield from _forks_above(state)
-            yield from self._reach(above)
+            yield from self.reach(above)
             writes = yield from _writes_of({state: told})
             return State(state, told.parents, writes.get(state))
         return None
 
-    def _reach(self, states: Sequence[StateId]) -> Steps[None]:
+    def reach(self, states: Sequence[StateId]) -> Steps[None]:
+        """Goes on at these too, as far as they are kept."""
         new = [state for state in dict.fromkeys(states) if state not in self._reached]
         answers = yield from ask_all([questions.record(state) for state in new])
         for state, answer in zip(new, answers):

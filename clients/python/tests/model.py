@@ -113,7 +113,7 @@ class Model:
     def landing(self, state, guarded):
         while True:
             for child in self.children[state]:
-                news = [id for id in self.order if id not in self.above[state] and (self.is_above(id, child))]
+                news = self.above[child] - self.above[state]
                 if not any(guarded & set(self.writes[id]) for id in news):
                     state = child
                     break

@@ -175,6 +175,17 @@ class Asked(OverServers):
         for call in (lambda: late.record(TWO), lambda: late.items(TWO), lambda: list(late.scan(TWO)), lambda: late.get_at("x", TWO)):
             self.assertRaises(tardis.Collected, call)
 
+    def test_a_walk_begins_at_all_leaves(self):
+        """A site lists the first 256 alone."""
+        self.serve()
+        site = self.connect()
+        site.open()
+        with site.pipeline() as line:
+            for number in range(260):
+                line.begin(tardis.ROOT), line.get("x"), line.put("x", str(number)), line.commit()
+        self.assertEqual((site.leaves().total, len(site.leaves().first)), (260, 256))
+        self.assertEqual([state.id.sequence for state in site.walk()], list(range(260, -1, -1)))
+
     def nine_forks(self):
         """Two leaves that share nine last states."""
         self.serve()
