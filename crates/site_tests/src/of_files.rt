@@ -11,7 +11,7 @@ use crate::of_site_journal::CRASHES;
 use crate::of_tardisd_main::words_of;
 use crate::sites::keys;
 use crate::talks::{Talk, copied};
-use command_words::Place;
+use command_words::{DoorPlan, Place};
 use disk_forms::{MemoryDisk, MemoryStore};
 use hub::{Connection, Ports, Ready};
 use std::alloc::Global;
@@ -96,19 +96,19 @@ struct OneDoor<'a> {
 impl<'a> Doors for OneDoor<'a> {
     type Ports = OneByOne<'a>;
 
-    ghost opens = { λ address opened. Unit {0} };
+    ghost opens = { λ doors opened. Unit {0} };
 
-    fn open(&mut self, address: &str) -> Result<OneByOne<'a>, GateFault> {
-        let _ = address;
+    fn open(&mut self, doors: &[DoorPlan<'_>]) -> Result<OneByOne<'a>, GateFault> {
+        let _ = doors;
         match self.edge.take() {
             Some(edge) => Ok(edge),
             None => Err(GateFault::Refused),
         }
     }
 
-    fn announce(&mut self, place: Place, address: &str, found: Option<FoundSite>) {
+    fn announce(&mut self, place: Place, doors: &[DoorPlan<'_>], found: Option<FoundSite>) {
         let _ = place;
-        let _ = address;
+        let _ = doors;
         self.found = found;
     }
 }
