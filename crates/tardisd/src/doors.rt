@@ -1,6 +1,6 @@
 //! The real doors, which say where they listen.
 
-use crate::words::{Faulty, Listening, Reading};
+use crate::words::{Faulty, Reading, Served};
 use command_words::{DoorPlan, Place};
 use socket_ports::{Door, DoorFault, SocketPorts, open_door, path_of};
 use std::fs;
@@ -116,23 +116,19 @@ impl Doors for SocketDoors<'_> {
     }
 
     fn announce(&mut self, place: Place, doors: &[DoorPlan<'_>], found: Option<FoundSite>) {
-        let Place { sites, site } = place;
-        let listening = Listening {
-            doors,
-            bound: self.bound.as_slice(),
+        let reading = match found {
+            Some(found) => Some(self.reading(found)),
+            None => None,
+        };
+        let bound = self.bound.as_slice();
+        let served = Served {
+            place,
+            doors: &*doors,
+            bound,
+            reading,
         };
         // where standard error is closed, nobody waits for the line
-        let _ = match found {
-            None => self.rt.eprintln(format_args!(
-                "tardisd: site {site} of {sites} listens {listening}"
-            )),
-            Some(found) => {
-                let reading = self.reading(found);
-                self.rt.eprintln(format_args!(
-                    "tardisd: site {site} of {sites} listens {listening}, {reading}"
-                ))
-            }
-        };
+        let _ = self.rt.eprintln(served);
     }
 }
 
