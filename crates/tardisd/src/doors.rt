@@ -44,7 +44,7 @@ impl<'a> SocketDoors<'a> {
             match self.open_one(&mut opened, plan) {
                 Ok(()) => {}
                 Err(fault) => {
-                    self.give_up(&doors[..opened.len()]);
+                    self.give_up(doors, opened.len());
                     return Err(fault);
                 }
             }
@@ -52,7 +52,7 @@ impl<'a> SocketDoors<'a> {
         match SocketPorts::new(self.rt, self.rt.alloc(), opened) {
             Ok(ports) => Ok(ports),
             Err(_) => {
-                self.give_up(doors);
+                self.give_up(doors, doors.len());
                 Err(GateFault::Refused)
             }
         }
@@ -78,10 +78,12 @@ impl<'a> SocketDoors<'a> {
         }
     }
 
-    /// Takes away the sockets of doors that were opened.
-    fn give_up(&self, doors: &[DoorPlan<'_>]) {
-        for plan in doors.iter() {
-            self.remove_socket(plan);
+    /// Takes away the sockets of the first doors, which were opened.
+    fn give_up(&self, doors: &[DoorPlan<'_>], count: usize) {
+        for at in 0..count {
+            if let Some(plan) = doors.get(at) {
+                self.remove_socket(plan);
+            }
         }
     }
 
