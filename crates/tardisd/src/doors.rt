@@ -1,6 +1,6 @@
 //! The real doors, which say where they listen.
 
-use crate::words::{Faulty, Listening, Reading};
+use crate::words::{Faulty, Reading, Served};
 use command_words::{DoorPlan, Place};
 use socket_ports::{Door, DoorFault, SocketPorts, open_door, path_of};
 use std::fs;
@@ -44,7 +44,7 @@ impl<'a> SocketDoors<'a> {
             match self.open_one(&mut opened, plan) {
                 Ok(()) => {}
                 Err(fault) => {
-                    self.give_up(&doors[..opened.len()]);
+                    self.give_up(doors, opened.len());
                     return Err(fault);
                 }
             }
@@ -52,7 +52,7 @@ impl<'a> SocketDoors<'a> {
         match SocketPorts::new(self.rt, self.rt.alloc(), opened) {
             Ok(ports) => Ok(ports),
             Err(_) => {
-                self.give_up(doors);
+                self.give_up(doors, doors.len());
                 Err(GateFault::Refused)
             }
         }
@@ -78,10 +78,12 @@ impl<'a> SocketDoors<'a> {
         }
     }
 
-    /// Takes away the sockets of doors that were opened.
-    fn give_up(&self, doors: &[DoorPlan<'_>]) {
-        for plan in doors.iter() {
-            self.remove_socket(plan);
+    /// Takes away the sockets of the first doors, which were opened.
+    fn give_up(&self, doors: &[DoorPlan<'_>], count: usize) {
+        for at in 0..count {
+            if let Some(plan) = doors.get(at) {
+                self.remove_socket(plan);
+            }
         }
     }
 
@@ -116,23 +118,19 @@ impl Doors for SocketDoors<'_> {
     }
 
     fn announce(&mut self, place: Place, doors: &[DoorPlan<'_>], found: Option<FoundSite>) {
-        let Place { sites, site } = place;
-        let listening = Listening {
-            doors,
-            bound: self.bound.as_slice(),
+        let reading = match found {
+            Some(found) => Some(self.reading(found)),
+            None => None,
+        };
+        let bound = self.bound.as_slice();
+        let served = Served {
+            place,
+            doors: &*doors,
+            bound,
+            reading,
         };
         // where standard error is closed, nobody waits for the line
-        let _ = match found {
-            None => self.rt.eprintln(format_args!(
-                "tardisd: site {site} of {sites} listens {listening}"
-            )),
-            Some(found) => {
-                let reading = self.reading(found);
-                self.rt.eprintln(format_args!(
-                    "tardisd: site {site} of {sites} listens {listening}, {reading}"
-                ))
-            }
-        };
+        let _ = self.rt.eprintln(served);
     }
 }
 

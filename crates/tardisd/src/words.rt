@@ -1,32 +1,40 @@
 //! What is told on standard error: where the doors are and what was found, and why a door or a file can't be opened.
 
-use command_words::{DoorKind, DoorPlan};
+use command_words::{DoorKind, DoorPlan, Place};
 use socket_ports::{DoorFault, path_of};
 use std::net::SocketAddr;
 use std::{fmt, io};
 use tardisd_main::FoundSite;
 
-/// Where the doors are, one after another, with the ports that were taken.
+/// The line that the site at a place is served at doors, one after another.
 #[derive(Clone, Copy)]
-pub(crate) struct Listening<'a> {
-    pub(crate) doors: &'a [DoorPlan<'a>],
-    /// Where each listens over TCP.
+pub(crate) struct Served<'a, 'b> {
+    pub(crate) place: Place,
+    pub(crate) doors: &'a [DoorPlan<'b>],
+    /// Where each door listens over TCP, with the port that was taken.
     pub(crate) bound: &'a [Option<SocketAddr>],
+    /// What was found in the site's file.
+    pub(crate) reading: Option<Reading>,
 }
 
-impl fmt::Display for Listening<'_> {
+impl fmt::Display for Served<'_, '_> {
     fn fmt<W: fmt::Write>(&self, f: &mut fmt::Formatter<W>) -> fmt::Result {
+        let Place { sites, site } = self.place;
+        write!(f, "tardisd: site {site} of {sites} listens ")?;
         for at in 0..self.doors.len() {
             if at > 0 {
                 write!(f, ", ")?;
             }
             write_door(f, &self.doors[at], self.port_at(at))?;
         }
-        Ok(())
+        match self.reading {
+            Some(reading) => write!(f, ", {reading}"),
+            None => Ok(()),
+        }
     }
 }
 
-impl Listening<'_> {
+impl Served<'_, '_> {
     /// The port that was taken for a door which asked for any.
     fn port_at(&self, at: usize) -> Option<u16> {
         match (self.doors.get(at), self.bound.get(at)) {
