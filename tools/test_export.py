@@ -41,8 +41,8 @@ from tardis.exports import write_export  # noqa: E402
 
 #: so many keys are there before the load begins: more than three pages of them
 KEPT, WRITERS = 600, 12
-#: so many exports, of which the last are made by the command; and so many commits come at least between two pages, or beside the command
-ROUNDS, BY_COMMAND, BETWEEN = 5, 2, 15
+#: so many exports, of which the last is made by the command; and so many commits come at least between two pieces
+ROUNDS, BY_COMMAND, BETWEEN = 4, 1, 10
 #: commits are let through whenever so many bytes were written, which are fewer than a page has, and so often at least
 PIECE, LEAST_PAUSES = 50_000, 4
 LONGEST_RUN = 600

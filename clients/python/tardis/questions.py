@@ -2,7 +2,7 @@
 told'), and what each gives."""
 
 import struct
-from typing import Callable, Dict, Optional, Sequence, Type, TypeVar, Union
+from typing import Callable, Dict, List, Optional, Sequence, Type, TypeVar, Union
 
 from .codes import QuestionCode
 from .ids import Bytes, StateId, number, prefix_bytes
@@ -14,6 +14,7 @@ __all__ = ["Question", "about", "at", "base", "keys", "record", "scan", "session
 
 T = TypeVar("T")
 P = TypeVar("P", Keys, Entries)
+C = TypeVar("C", int, bytes)
 
 #: the base of at most so many states is asked for
 MOST_STATES = 8
@@ -34,18 +35,25 @@ def at(key: Bytes, state: At) -> "Question[Read]":
     return Question(body_of(QuestionCode.AT, state_field(state) + key_field(key)), read_of)
 
 
+def _check_page(behind: List[C], told: Sequence[C], total: int) -> None:
+    """What a page tells stands behind what was told before, and ascends; there is some where there is any."""
+    if any(one >= other for one, other in zip([*behind, *told], told)):
+        raise ProtocolError("a page has what was told before, or no order")
+    if (len(told) == 0) != (total == 0) or len(told) > total:
+        raise ProtocolError(f"a page has {len(told)} of {total}")
+
+
 def _page(code: QuestionCode, kind: Type[P], state: At, prefix: Bytes, after: Bytes, keys_of: Callable[[P], Sequence[bytes]]) -> "Question[P]":
-    """A question for a page of keys, which stand behind this one, begin so, and ascend; there is one at least where there are any."""
+    """A question for a page of keys, which stand behind this one and begin so."""
     begin, behind = prefix_bytes(prefix), prefix_bytes(after)
     fields = state_field(state) + bytes([len(begin)]) + begin + bytes([len(behind)]) + behind
 
     def read(reply: Reply) -> P:
         page = itself(kind)(reply)
         told = keys_of(page)
-        if any(one >= other for one, other in zip([behind, *told], told)) or not all(key.startswith(begin) for key in told):
-            raise ProtocolError("a page has keys that weren't asked for, or in no order")
-        if (len(told) == 0) != (page.total == 0) or len(told) > page.total:
-            raise ProtocolError(f"a page has {len(told)} of {page.total} keys")
+        _check_page([behind], told, page.total)
+        if not all(key.startswith(begin) for key in told):
+            raise ProtocolError("a page has what wasn't asked for")
         return page
 
     return Question(body_of(code, fields), read)
@@ -77,7 +85,13 @@ def base(key: Bytes, states: Sequence[At]) -> "Question[Dict[StateId, Read]]":
 def sessions(after: Optional[int] = None) -> "Question[Sessions]":
     """The open sessions with numbers above this one, or all."""
     behind = b"\x00" if after is None else struct.pack(">BH", 1, number("a session's number", after, 0, 0xFFFF))
-    return Question(body_of(QuestionCode.SESSIONS, behind), itself(Sessions))
+
+    def read(reply: Reply) -> Sessions:
+        page = itself(Sessions)(reply)
+        _check_page([-1 if after is None else after], [line.number for line in page.first], page.total)
+        return page
+
+    return Question(body_of(QuestionCode.SESSIONS, behind), read)
 
 
 def about() -> "Question[About]":

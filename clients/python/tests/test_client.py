@@ -494,7 +494,10 @@ class Model(OfModel, Calls):
 
 
 class OldModel(OfOldModel, Calls):
-    test_over_tcp = None
+    """What is done otherwise where no questions are answered: histories, and the bases of merges."""
+    test_over_tcp = test_a_hundred_thousand_puts_in_one_pipeline = test_a_server_that_is_killed_in_mid_pipeline = None
+    test_threads_take_turns = test_retry_runs_the_block_again = test_blind_writes_fork_unless_told_otherwise = None
+    test_refusals_are_classes_and_say_what_to_do = test_readers_that_follow_move_their_ceilings = None
 
 
 del Calls

@@ -43,7 +43,8 @@ class Spellings(unittest.TestCase):
         stated = {bytes.fromhex(asked): bytes.fromhex(answer)
                   for asked, answer in re.findall(r'answer_over_bytes site \(hex "([^"]*)"\) ≡ hex "([^"]*)"', page)}
         rows = [
-            (questions.at("d", TWO), Value(TWO, b"bc")), (questions.at("x", THREE), tardis.Deleted(THREE)), (questions.at("y", ONE), tardis.Absent()),
+            (questions.at("d", TWO), Value(TWO, b"bc")), (questions.at("x", THREE), tardis.Deleted(THREE)),
+            (questions.at("y", ONE), tardis.Absent()),
             (questions.at("d", "1.4"), tardis.Unknown(StateId(1, 4))), (questions.keys(ONE, "", "d"), tardis.Keys(1, (b"x",))),
             (questions.scan(THREE), tardis.Entries(1, ((b"d", b"ab"),))),
             (questions.record(ONE), tardis.Recorded(1, (tardis.ROOT,), (tardis.ROOT,), (TWO, THREE), (b"d", b"x"))),
@@ -83,7 +84,8 @@ class Spellings(unittest.TestCase):
                 # a page: no key of several, one that wasn't asked for, twice the same, one that stands before, more than there are
                 (questions.keys(ONE), "41 00000001 0000"), (questions.keys(ONE, "a"), "41 00000001 0001 01 62"),
                 (questions.keys(ONE), "41 00000002 0002 01 62 01 62"), (questions.scan(ONE, "", "b"), "42 00000001 0001 01 62 0000"),
-                (questions.scan(ONE), "42 00000001 0002 01 61 0000 01 62 0000")]:
+                (questions.scan(ONE), "42 00000001 0002 01 61 0000 01 62 0000"),
+                (questions.sessions(), "45" + one + "00000001 0000"), (questions.sessions(2), "45" + one + "00000001 0001 0002 00" + 2 * one + "00 00")]:
             with self.assertRaises(tardis.ProtocolError):
                 told(question, bytes.fromhex(spelled))
 
