@@ -32,7 +32,8 @@ pub(crate) fn words_of(rt: &impl Abort, alloc: Global, line: &str) -> Vec<String
 /// Whether the doors are one for all at `unix:s` and then one for other sites at `unix:p`.
 fn are_these(doors: &[DoorPlan<'_>]) -> bool {
     match doors {
-        [first, second] => is_door(first, DoorKind::All, "unix:s") && is_door(second, DoorKind::Peers, "unix:p"),
+        [first, second] => is_door(first, DoorKind::All, "unix:s")
+            && is_door(second, DoorKind::Peers, "unix:p"),
         _ => false,
     }
 }
