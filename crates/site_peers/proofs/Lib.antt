@@ -1,0 +1,7 @@
+-- Lemmas on a peer's turns.
+mod Items
+mod Counts
+mod Telling
+mod Delivering
+mod Turning
+mod Exchanging
