@@ -4,4 +4,6 @@ mod Counts
 mod Telling
 mod Delivering
 mod Turning
+mod Shortness
+mod Worked
 mod Exchanging

@@ -54,6 +54,11 @@ with_left p now [] connected full useful =
     record { every = p.every; pause = first_pause; moment = alone connected now (if full && useful then 0 else p.every) }
 with_left p now (item ∷ items) connected full useful = at p (Delivering (item ∷ items) connected full useful)
 
+-- the peer once no item is left to be delivered
+abbrev pub finished : Peer → (now : ℕ) → Moment → Peer
+finished p now (Delivering items connected full useful) = with_left p now items connected full useful
+finished p now _ = p
+
 -- The exchange failed at this time, which is told unless the one before failed too.
 pub record HasFailed (p : Peer) (now : ℕ) (deed : Deed) (q : Peer) (why : Failure) : Type 0 where
   pub deed_is : deed ≡ Fail why (p.pause == first_pause)

@@ -1,5 +1,5 @@
 -- Runs of a peer: its turns, and the exchanges that they made.
-use Rattle.std.specs.Prelude.{◌≡◌, ℕ, ◌≤◌, Bool, true, false, ◌||◌, List, [], ◌∷◌, ◌++◌, length, map, bytes_eq, if◌then◌else◌, ◌⊎◌}
+use Rattle.std.specs.Prelude.{◌≡◌, ℕ, ◌<◌, ◌≤◌, Bool, true, false, ◌||◌, List, [], ◌∷◌, ◌++◌, length, map, bytes_eq, if◌then◌else◌, ◌⊎◌}
 use Rattle.tardis_base.specs.declared.records.Item.{Item}
 use Rattle.tardis_base.specs.declared.records.Batch.{Batch}
 use Rattle.tardis_base.specs.declared.replies.SiteLine.{SiteLine}
@@ -14,7 +14,7 @@ use Rattle.site_peers.specs.declared.peers.Peer.{Peer}
 use Rattle.site_peers.specs.Questions.{QuestionState}
 use Rattle.site_peers.specs.Asking.{by_nobody, stat, delivery, items_of, AreStatistics, pull_frame}
 use Rattle.site_peers.specs.Hearing.{StartsWith}
-use Rattle.site_peers.specs.Moves.{News, Time, Through, Over, Came, Sent, most_a_turn, fresh, Moves}
+use Rattle.site_peers.specs.Moves.{News, Time, Through, Over, Came, Sent, most_a_turn, fresh, Moves, Rests, rest_of}
 
 -- what a turn was: what the edge told at this time, the requests of actor 0 and their replies, and what was asked of the edge
 pub record PeerTurn : Type 0 where
@@ -154,6 +154,11 @@ ExchangesAreWhole = (every : ℕ) (turns : List PeerTurn) (q : Peer) → Went ev
 -- no turn asks more than 64 requests
 abbrev pub TurnsAreShort : Type 0
 TurnsAreShort = (p q : Peer) (t : PeerTurn) → Moves p t.now t.bodies t.replies t.deed q t.news → length t.bodies ≤ most_a_turn
+
+-- until so long has passed as a peer says the time says nothing
+abbrev pub TimeSaysNothing : Type 0
+TimeSaysNothing = (p q : Peer) (now : ℕ) (bodies replies : List (List ℕ)) (deed : Deed) → 0 < rest_of p.moment now → Moves p now bodies replies deed q Time
+    → Rests p now bodies replies deed q
 
 -- the counts that a reply to Stat told are those of the state in which it was asked
 abbrev pub CountsAreCurrent : {S : Type 0} → PlainMachine S → Type 0

@@ -2,7 +2,8 @@
 
 ghost use Rattle.std.specs.Prelude.{◌≡◌, ◌*◌, ◌≤◌, ◌++◌, [], length, take};
 ghost use Rattle.tardis_base.specs.Sizes.{piece};
-ghost use Rattle.site_peers.specs.Moves.{News, Moves, HasFailed, MayAsk, HearsOf, IsDelivering, fresh, waiting, listens, rest_of};
+ghost use Rattle.site_peers.specs.Moves.{News, Moves, Breaks, HasFailed, MayAsk, HearsOf, IsDelivering, Once, finished, fresh, waiting, listens, rest_of};
+ghost use Rattle.site_peers.specs.Times.{patience};
 ghost use Rattle.site_peers.specs.Turns.{Turned, Made};
 
 use crate::asks::ask;
@@ -10,7 +11,7 @@ use crate::deeds::{Deed, Failure};
 use crate::hearing::Heard;
 use crate::moments::Moment;
 use crate::questions::{Question, Room};
-use crate::times::{FIRST_PAUSE, PATIENCE, left, longer_pause, passed};
+use crate::times::{FIRST_PAUSE, PATIENCE, left, longer_pause, passed, wait_after};
 use rest_machine::Settling;
 use std::alloc::Global;
 use std::mem;
@@ -37,7 +38,7 @@ impl Peer {
         ensures { result ≡ fresh (1000 * seconds) }
     {
         Peer {
-            every: seconds as u64 * 1_000,
+            every: 1_000 * seconds as u64,
             pause: FIRST_PAUSE,
             moment: Moment::Away { since: 0, wait: 0 },
         }
@@ -64,12 +65,9 @@ impl Peer {
                     Deed::Stay
                 }
             }
-            Moment::Calling { since } | Moment::Asked { since, .. } => {
-                if passed(now, *since, PATIENCE) {
-                    self.fail(now, Failure::Late)
-                } else {
-                    Deed::Stay
-                }
+            Moment::Calling { since } => {
+                let since = *since;
+                self.give_up(now, since)
             }
             Moment::Idle { since, wait } => {
                 if passed(now, *since, *wait) {
@@ -77,6 +75,10 @@ impl Peer {
                 } else {
                     Deed::Stay
                 }
+            }
+            Moment::Asked { since, .. } => {
+                let since = *since;
+                self.give_up(now, since)
             }
             Moment::Delivering { .. } => self.deliver(machine, now, reply),
         }
@@ -220,22 +222,44 @@ impl Peer {
         ensures turned { Turned M.plain (M.stands machine.old) (M.stands machine.new) self.old News.Time now result self.new }
         ensures opening { M.opening machine.new ≡ M.opening machine.old }
     {
-        if let Moment::Delivering {
+        if let Moment::Delivering { items, useful, .. } = &mut self.moment {
+            let more = items.deliver_some(machine, reply);
+            *useful = *useful || more;
+        }
+        self.finish(now);
+        Deed::Stay
+    }
+
+    /// Ends the exchange, where no items are left.
+    fn finish(&mut self, now: u64)
+        ensures { self.new ≡ finished self.old now self.old.moment }
+    {
+        let Moment::Delivering {
             items,
             connected,
             full,
             useful,
-        } = &mut self.moment
-        {
-            let more = items.deliver_some(machine, reply);
-            *useful = *useful || more;
-            if items.is_empty() {
-                let wait = if *full && *useful { 0 } else { self.every };
-                self.moment = Moment::alone(*connected, now, wait);
-                self.pause = FIRST_PAUSE;
-            }
+        } = &self.moment
+        else {
+            return;
+        };
+        if !items.is_empty() {
+            return;
         }
-        Deed::Stay
+        let wait = wait_after(*full && *useful, self.every);
+        self.moment = Moment::alone(*connected, now, wait);
+        self.pause = FIRST_PAUSE;
+    }
+
+    /// Gives up what is waited for, where it is late.
+    fn give_up(&mut self, now: u64, since: u64) -> Deed
+        ensures { Once self.old now [] [] result self.new since patience (Breaks self.old now [] [] result self.new Failure.Late) }
+    {
+        if passed(now, since, PATIENCE) {
+            self.fail(now, Failure::Late)
+        } else {
+            Deed::Stay
+        }
     }
 
     /// Gives the exchange up.

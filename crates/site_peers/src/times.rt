@@ -1,6 +1,6 @@
 //! How long a peer is waited for and left alone, in milliseconds.
 
-ghost use Rattle.std.specs.Prelude.{◌≡◌, ◌-◌};
+ghost use Rattle.std.specs.Prelude.{◌≡◌, ◌-◌, if◌then◌else◌};
 ghost use Rattle.site_peers.specs.Times.{longer, has_passed};
 
 /// So long a call and an answer are waited for.
@@ -31,4 +31,11 @@ pub(crate) fn left(now: u64, since: u64, wait: u64) -> u64
     ensures { result ≡ wait - (now - since) }
 {
     wait.saturating_sub(now.saturating_sub(since))
+}
+
+/// How long it is until the next exchange.
+pub(crate) fn wait_after(at_once: bool, every: u64) -> u64
+    ensures { result ≡ (if at_once then 0 else every) }
+{
+    if at_once { 0 } else { every }
 }
