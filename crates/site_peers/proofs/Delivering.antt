@@ -1,5 +1,5 @@
 -- Items that were delivered so far.
-use Rattle.std.proofs.Common.{◌≡◌, ◌∙◌, ℕ, ◌+◌, ◌-◌, ◌<◌, ◌≤◌, min, Bool, true, false, List, [], ◌∷◌, ◌++◌, length, map, take, drop, ◌⊎◌, inl, inr, refl, ap, sym, subst, arith}
+use Rattle.std.proofs.Common.{◌≡◌, ◌∙◌, ℕ, ◌+◌, ◌-◌, ◌<◌, ◌≤◌, min, Bool, true, false, List, [], ◌∷◌, ◌++◌, length, map, take, drop, ◌⊎◌, inl, inr, slice_get, Some, refl, ap, sym, subst, arith}
 use Rattle.std.specs.Prelude.{◌||◌}
 use Rattle.std.specs.List.{list_any}
 use Rattle.std.proofs.lemmas.List.{map-append, take_all, length-drop}
@@ -43,10 +43,6 @@ drop_next (ℕ.suc n) (z ∷ zs) x ys e =
     let rest = drop_next n zs x ys e in
     (ap (λ k. drop k (z ∷ zs)) next ∙ rest.0, ap (λ k. take k (z ∷ zs)) next ∙ ap (λ w. z ∷ w) rest.1)
 
-any_more : (replies : List (List ℕ)) (reply : List ℕ) → (any_applied replies || is_applied reply) ≡ any_applied (replies ++ reply ∷ [])
-any_more [] reply = last_one (is_applied reply)
-any_more (y ∷ ys) reply = first_or (is_applied y) (any_applied ys) (is_applied reply) (any_applied (ys ++ reply ∷ [])) (any_more ys reply)
-
 last_one : (b : Bool) → (false || b) ≡ (b || false)
 last_one true = refl
 last_one false = refl
@@ -54,6 +50,10 @@ last_one false = refl
 first_or : (a b c d : Bool) → (b || c) ≡ d → ((a || b) || c) ≡ (a || d)
 first_or true b c d e = refl
 first_or false b c d e = e
+
+any_more : (replies : List (List ℕ)) (reply : List ℕ) → (any_applied replies || is_applied reply) ≡ any_applied (replies ++ reply ∷ [])
+any_more [] reply = last_one (is_applied reply)
+any_more (y ∷ ys) reply = first_or (is_applied y) (any_applied ys) (is_applied reply) (any_applied (ys ++ reply ∷ [])) (any_more ys reply)
 
 -- so many of the items were delivered
 pub record DeliveredSo {S : Type 0} (m : PlainMachine S) (from to : S → Type 0) (items : List Item) (place : ℕ) (left : List Item) (useful : Bool) : Type 0 where
@@ -91,13 +91,13 @@ drop_past (ℕ.suc n) [] h = refl
 drop_past ℕ.zero (x ∷ xs) h = absurd (omega (arith, h))
 drop_past (ℕ.suc n) (x ∷ xs) h = drop_past n xs (omega (arith, h))
 
--- all of the first n, though they be fewer
-first_n : {X : Type 0} (k n : ℕ) (xs : List X) → k ≡ min (length xs) n → (take k xs ≡ take n xs) × (drop k xs ≡ drop n xs)
-first_n k n xs is = by_order k n xs (omega (arith, is))
-
 by_order : {X : Type 0} (k n : ℕ) (xs : List X) → ((k ≡ n) ⊎ ((length xs ≤ k) × (length xs ≤ n))) → (take k xs ≡ take n xs) × (drop k xs ≡ drop n xs)
 by_order k n xs (inl same) = (ap (λ i. take i xs) same, ap (λ i. drop i xs) same)
 by_order k n xs (inr few) = (take_all k xs few.0 ∙ sym (take_all n xs few.1), drop_past k xs few.0 ∙ sym (drop_past n xs few.1))
+
+-- all of the first n, though they be fewer
+first_n : {X : Type 0} (k n : ℕ) (xs : List X) → k ≡ min (length xs) n → (take k xs ≡ take n xs) × (drop k xs ≡ drop n xs)
+first_n k n xs is = by_order k n xs (omega (arith, is))
 
 -- the first 64 were delivered
 pub record DeliveredAll {S : Type 0} (m : PlainMachine S) (from to : S → Type 0) (items left : List Item) (useful : Bool) : Type 0 where
@@ -119,3 +119,23 @@ pub some_left : {S : Type 0} (m : PlainMachine S) (from to : S → Type 0) (item
 some_left m from to items place count left useful d low few =
     let many : length left ≡ length items - place = ap length d.left_is ∙ length-drop place items in
     omega (arith, many, low, few)
+
+-- the item at a place is the first of those that are left there
+pub record Next {X : Type 0} (xs : List X) (i : ℕ) : Type 0 where
+  pub item : X
+  pub there : slice_get xs i ≡ Some item
+  pub rest : drop i xs ≡ item ∷ drop (i + 1) xs
+
+pub next_of : {X : Type 0} (xs : List X) (i : ℕ) → i < length xs → Next xs i
+next_of [] i h = absurd (omega (arith, h))
+next_of (x ∷ xs) ℕ.zero h = record { item = x; there = refl; rest = refl }
+next_of (x ∷ xs) (ℕ.suc i) h =
+    let n = next_of xs i (omega (arith, h)) in
+    let more : ℕ.suc i + 1 ≡ ℕ.suc (i + 1) = omega arith in
+    record { item = n.item; there = n.there; rest = n.rest ∙ ap (λ z. n.item ∷ z) (sym (ap (λ k. drop k (x ∷ xs)) more)) }
+
+-- a place that has something left is one of the list
+pub within : {X : Type 0} (xs left : List X) (i : ℕ) → left ≡ drop i xs → 0 < length left → i < length xs
+within xs left i is some =
+    let many : length left ≡ length xs - i = ap length is ∙ length-drop i xs in
+    omega (arith, many, some)

@@ -1,5 +1,5 @@
 -- Reading statistics, and what memory is wanting for.
-use Rattle.std.proofs.Common.{◌≡◌, ◌∙◌, ◌↔◌, ℕ, List, [], ◌∷◌, Bool, true, false, IsTrue, Option, Some, None, Result, Ok, Err, refl, sym, ap, subst, inl, inr}
+use Rattle.std.proofs.Common.{◌≡◌, ◌∙◌, ◌↔◌, ℕ, List, [], ◌∷◌, Bool, true, false, IsTrue, Option, Some, None, Result, Ok, Err, refl, sym, ap, subst, inl, inr, arith}
 use Rattle.tardis_base.specs.declared.faults.ReadFault.{ReadFault}
 use Rattle.tardis_base.specs.declared.faults.ReadFault.TheVariants.{Malformed, NoMemory as OutOfMemory}
 use Rattle.tardis_base.specs.declared.replies.SiteLine.{SiteLine}
@@ -69,12 +69,12 @@ no_fault one bytes lines result OutOfMemory malformed sure is are =
     sure are.told ((one.some bytes are.told).1 are.spelled) (subst (λ r. IsTrue (reply_takes_no_memory r)) (sym has.is) refl) is
 
 -- what was read is the reply that they are
-pub same_reply : RepliesHaveOneSpelling → (bytes : List ℕ) (lines : List SiteLine) (reply : Reply) → SpellsReply bytes reply → AreStatistics bytes lines →
-    HasLines reply lines
-same_reply one bytes lines reply spelled are =
-    subst (λ r. HasLines r lines) (one.one_thing bytes are.told reply are.spelled spelled) (has_lines are.told lines are.states)
+pub same_states : RepliesHaveOneSpelling → (bytes : List ℕ) (lines : List SiteLine) (reply : Reply) → SpellsReply bytes reply → AreStatistics bytes lines →
+    StatesLines reply lines
+same_states one bytes lines reply spelled are =
+    subst (λ r. StatesLines r lines) (one.one_thing bytes are.told reply are.spelled spelled) are.states
 
-first_byte : List ℕ → ℕ
+abbrev pub first_byte : List ℕ → ℕ
 first_byte [] = 0
 first_byte (b ∷ bytes) = b
 
@@ -82,7 +82,7 @@ no_statistics : (lines : List SiteLine) → AreStatistics no_memory lines → �
 no_statistics lines are =
     let has = has_lines are.told lines are.states in
     let first : 22 ≡ 14 = ap first_byte (are.spelled.1 ∙ ap reply_spelling has.is) in
-    absurd (cc)
+    absurd (omega (arith, first))
 
 pub counts_are_current : {S : Type 0} (m : PlainMachine S) (s t : S) (reply : List ℕ) (lines : List SiteLine) →
     Answers m s (by_nobody (stat ∷ [])) (reply ∷ []) t → AreStatistics reply lines → AreStatistics (m.reply s (0, stat)) lines

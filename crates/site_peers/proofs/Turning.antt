@@ -47,97 +47,91 @@ module _ (p : Peer) (now : ℕ) (deed : Deed) (q : Peer) where
   breaks why f = record { none = (refl, refl); failed = f }
 
   once : (since wait : ℕ) (passed : Bool) (P : Type 0) → passed ≡ has_passed now since wait → passed ≡ true → P → Once p now [] [] deed q since wait P
-  once since wait passed P is yes holds = inl (leb-true wait (now - since) (sym is ∙ yes), holds)
+  once since wait passed P is so holds = inl (leb-true wait (now - since) (sym is ∙ so), holds)
 
   until : (since wait : ℕ) (passed : Bool) (P : Type 0) → passed ≡ has_passed now since wait → passed ≡ false → Rests p now [] [] deed q →
       Once p now [] [] deed q since wait P
-  until since wait passed P is no r = inr (leb-false wait (now - since) (sym is ∙ no), r)
+  until since wait passed P is fails r = inr (leb-false wait (now - since) (sym is ∙ fails), r)
 
   pub away_due : (since wait : ℕ) (passed : Bool) → p.moment ≡ Away since wait → passed ≡ has_passed now since wait → passed ≡ true → deed ≡ Call →
       q ≡ at p (Calling now) → Moves p now [] [] deed q Time
-  away_due since wait passed is t yes d n = subst (λ m. OnTime p now [] [] deed q m) (sym is)
-      (once since wait passed (Becomes p now [] [] deed q Call (Calling now)) t yes (becomes Call (Calling now) d n))
+  away_due since wait passed is t holds d n = subst (λ m. OnTime p now [] [] deed q m) (sym is)
+      (once since wait passed (Becomes p now [] [] deed q Call (Calling now)) t holds (becomes Call (Calling now) d n))
 
   pub away_waits : (since wait : ℕ) (passed : Bool) → p.moment ≡ Away since wait → passed ≡ has_passed now since wait → passed ≡ false → deed ≡ Stay →
       q ≡ p → Moves p now [] [] deed q Time
-  away_waits since wait passed is t no d same = subst (λ m. OnTime p now [] [] deed q m) (sym is)
-      (until since wait passed (Becomes p now [] [] deed q Call (Calling now)) t no (rests d same))
+  away_waits since wait passed is t fails d same = subst (λ m. OnTime p now [] [] deed q m) (sym is)
+      (until since wait passed (Becomes p now [] [] deed q Call (Calling now)) t fails (rests d same))
 
   pub idle_waits : (since wait : ℕ) (passed : Bool) → p.moment ≡ Idle since wait → passed ≡ has_passed now since wait → passed ≡ false → deed ≡ Stay →
       q ≡ p → Moves p now [] [] deed q Time
-  idle_waits since wait passed is t no d same = subst (λ m. OnTime p now [] [] deed q m) (sym is)
-      (until since wait passed (MayAsk p now [] [] deed q) t no (rests d same))
+  idle_waits since wait passed is t fails d same = subst (λ m. OnTime p now [] [] deed q m) (sym is)
+      (until since wait passed (MayAsk p now [] [] deed q) t fails (rests d same))
 
   pub call_late : (since : ℕ) (passed : Bool) → p.moment ≡ Calling since → passed ≡ has_passed now since patience → passed ≡ true →
       HasFailed p now deed q Late → Moves p now [] [] deed q Time
-  call_late since passed is t yes f = subst (λ m. OnTime p now [] [] deed q m) (sym is)
-      (once since patience passed (Breaks p now [] [] deed q Late) t yes (breaks Late f))
+  call_late since passed is t holds f = subst (λ m. OnTime p now [] [] deed q m) (sym is)
+      (once since patience passed (Breaks p now [] [] deed q Late) t holds (breaks Late f))
 
   pub call_waits : (since : ℕ) (passed : Bool) → p.moment ≡ Calling since → passed ≡ has_passed now since patience → passed ≡ false → deed ≡ Stay →
       q ≡ p → Moves p now [] [] deed q Time
-  call_waits since passed is t no d same = subst (λ m. OnTime p now [] [] deed q m) (sym is)
-      (until since patience passed (Breaks p now [] [] deed q Late) t no (rests d same))
+  call_waits since passed is t fails d same = subst (λ m. OnTime p now [] [] deed q m) (sym is)
+      (until since patience passed (Breaks p now [] [] deed q Late) t fails (rests d same))
 
   pub answer_late : (since : ℕ) (question : QuestionState) (passed : Bool) → p.moment ≡ Asked since question → passed ≡ has_passed now since patience →
       passed ≡ true → HasFailed p now deed q Late → Moves p now [] [] deed q Time
-  answer_late since question passed is t yes f = subst (λ m. OnTime p now [] [] deed q m) (sym is)
-      (once since patience passed (Breaks p now [] [] deed q Late) t yes (breaks Late f))
+  answer_late since question passed is t holds f = subst (λ m. OnTime p now [] [] deed q m) (sym is)
+      (once since patience passed (Breaks p now [] [] deed q Late) t holds (breaks Late f))
 
   pub answer_waits : (since : ℕ) (question : QuestionState) (passed : Bool) → p.moment ≡ Asked since question → passed ≡ has_passed now since patience →
       passed ≡ false → deed ≡ Stay → q ≡ p → Moves p now [] [] deed q Time
-  answer_waits since question passed is t no d same = subst (λ m. OnTime p now [] [] deed q m) (sym is)
-      (until since patience passed (Breaks p now [] [] deed q Late) t no (rests d same))
+  answer_waits since question passed is t fails d same = subst (λ m. OnTime p now [] [] deed q m) (sym is)
+      (until since patience passed (Breaks p now [] [] deed q Late) t fails (rests d same))
+
+  on_through : (moment : Moment) → is_called moment ≡ false → Rests p now [] [] deed q → OnThrough p now [] [] deed q moment
+  on_through (Away since wait) fails r = r
+  on_through (Calling since) fails r = absurd (cc)
+  on_through (Idle since wait) fails r = r
+  on_through (Asked since question) fails r = r
+  on_through (Delivering items connected full useful) fails r = r
 
   -- a call that came through, where there is none
   pub through_rests : (moment : Moment) → p.moment ≡ moment → is_called moment ≡ false → deed ≡ Stay → q ≡ p → Moves p now [] [] deed q Through
-  through_rests moment is no d same = subst (λ m. OnThrough p now [] [] deed q m) (sym is) (on_through moment no (rests d same))
+  through_rests moment is fails d same = subst (λ m. OnThrough p now [] [] deed q m) (sym is) (on_through moment fails (rests d same))
 
-  on_through : (moment : Moment) → is_called moment ≡ false → Rests p now [] [] deed q → OnThrough p now [] [] deed q moment
-  on_through (Away since wait) no r = r
-  on_through (Calling since) no r = absurd (cc)
-  on_through (Idle since wait) no r = r
-  on_through (Asked since question) no r = r
-  on_through (Delivering items connected full useful) no r = r
+-- a call or an answer is given up, or waited for
+pub call_given_up : (p : Peer) (now : ℕ) (deed : Deed) (q : Peer) (since : ℕ) → p.moment ≡ Calling since →
+    Once p now [] [] deed q since patience (Breaks p now [] [] deed q Late) → Moves p now [] [] deed q Time
+call_given_up p now deed q since is once = subst (λ m. OnTime p now [] [] deed q m) (sym is) once
 
-  -- bytes that weren't asked for, where there is a connection, and none
-  pub bytes_break : (bytes : List ℕ) (moment : Moment) → has_connection moment ≡ true → ((since : ℕ) (question : QuestionState) → moment ≡ Asked since question → ⊥) →
-      HasFailed p now deed q Unasked → OnBytes p now [] [] deed q bytes moment
-  bytes_break bytes (Away since wait) yes other f = absurd (cc)
-  bytes_break bytes (Calling since) yes other f = absurd (cc)
-  bytes_break bytes (Idle since wait) yes other f = breaks Unasked f
-  bytes_break bytes (Asked since question) yes other f = absurd (other since question refl)
-  bytes_break bytes (Delivering items true full useful) yes other f = breaks Unasked f
-  bytes_break bytes (Delivering items false full useful) yes other f = absurd (cc)
+pub answer_given_up : (p : Peer) (now : ℕ) (deed : Deed) (q : Peer) (since : ℕ) (question : QuestionState) → p.moment ≡ Asked since question →
+    Once p now [] [] deed q since patience (Breaks p now [] [] deed q Late) → Moves p now [] [] deed q Time
+answer_given_up p now deed q since question is once = subst (λ m. OnTime p now [] [] deed q m) (sym is) once
 
-  pub bytes_rest : (bytes : List ℕ) (moment : Moment) → has_connection moment ≡ false → Rests p now [] [] deed q → OnBytes p now [] [] deed q bytes moment
-  bytes_rest bytes (Away since wait) no r = r
-  bytes_rest bytes (Calling since) no r = r
-  bytes_rest bytes (Idle since wait) no r = absurd (cc)
-  bytes_rest bytes (Asked since question) no r = absurd (cc)
-  bytes_rest bytes (Delivering items true full useful) no r = absurd (cc)
-  bytes_rest bytes (Delivering items false full useful) no r = r
+pub idle_due : (p : Peer) (now : ℕ) (bodies replies : List (List ℕ)) (deed : Deed) (q : Peer) (since wait : ℕ) (passed : Bool) → p.moment ≡ Idle since wait →
+    passed ≡ has_passed now since wait → passed ≡ true → MayAsk p now bodies replies deed q → Moves p now bodies replies deed q Time
+idle_due p now bodies replies deed q since wait passed is t so may =
+    subst (λ m. OnTime p now bodies replies deed q m) (sym is) (inl (leb-true wait (now - since) (sym t ∙ so), may))
 
-  pub none_came : (bytes : List ℕ) → bytes ≡ [] → deed ≡ Stay → q ≡ p → Moves p now [] [] deed q (Came bytes)
-  none_came bytes none d same = subst (λ b. OnCame p now [] [] deed q b p.moment) (sym none) (rests d same)
+left_same : (p : Peer) (moment : Moment) (now : ℕ) (left : List Item) (connected full useful : Bool) →
+    with_left (at p moment) now left connected full useful ≡ with_left p now left connected full useful
+left_same p moment now [] connected full useful = refl
+left_same p moment now (item ∷ items) connected full useful = refl
 
-  pub some_came : (bytes : List ℕ) → 0 < length bytes → OnBytes p now [] [] deed q bytes p.moment → Moves p now [] [] deed q (Came bytes)
-  some_came [] some m = absurd (omega (arith, some))
-  some_came (byte ∷ bytes) some m = m
-
-  -- bytes were written where nothing is asked
-  pub sent_rests : (moment : Moment) (count : ℕ) → p.moment ≡ moment → ((since : ℕ) (question : QuestionState) → moment ≡ Asked since question → ⊥) → deed ≡ Stay →
-      q ≡ p → Moves p now [] [] deed q (Sent (take count (waiting p.moment)))
-  sent_rests moment count is other d same =
-      subst (λ m. OnSent p now [] [] deed q (take count (waiting m)) m) (sym is) (on_sent moment count other (rests d same))
-
-  take_none : (count : ℕ) → take count ([] : List ℕ) ≡ []
-  take_none ℕ.zero = refl
-  take_none (ℕ.suc count) = refl
-
-  on_sent : (moment : Moment) (count : ℕ) → ((since : ℕ) (question : QuestionState) → moment ≡ Asked since question → ⊥) → Rests p now [] [] deed q →
-      OnSent p now [] [] deed q (take count (waiting moment)) moment
-  on_sent (Away since wait) count other r = record { none_waits = take_none count; rests = r }
-  on_sent (Calling since) count other r = record { none_waits = take_none count; rests = r }
-  on_sent (Idle since wait) count other r = record { none_waits = take_none count; rests = r }
-  on_sent (Asked since question) count other r = absurd (other since question refl)
-  on_sent (Delivering items connected full useful) count other r = record { none_waits = take_none count; rests = r }
+pub items_delivered : {S : Type 0} (m : PlainMachine S) (from to : S → Type 0) (p : Peer) (now : ℕ) (q : Peer) (items left : List Item)
+    (connected full useful more any : Bool) → p.moment ≡ Delivering items connected full useful → left ≡ drop most_a_turn items →
+    (replies : List (List ℕ)) × (AnswersFrom m from to (map delivery (take most_a_turn items)) replies × (more ≡ any_applied replies)) →
+    any ≡ (useful || more) → q ≡ with_left (at p (Delivering left connected full any)) now left connected full any → Turned m from to p Time now Stay q
+items_delivered m from to p now q items left connected full useful more any is left_is (replies, answered, more_is) any_is next = record {
+  bodies = map delivery (take most_a_turn items);
+  replies = replies;
+  answered = answered;
+  does = subst (λ moment. OnTime p now (map delivery (take most_a_turn items)) replies Stay q moment) (sym is) (record {
+    asked = refl;
+    deed_is = refl;
+    next = next
+        ∙ (left_same p (Delivering left connected full any) now left connected full any
+        ∙ (ap (λ l. with_left p now l connected full any) left_is
+        ∙ ap (λ b. with_left p now (drop most_a_turn items) connected full b) (any_is ∙ ap (λ b. useful || b) more_is)));
+  });
+}

@@ -1,5 +1,5 @@
 -- The worked turns.
-use Rattle.std.proofs.Common.{◌≡◌, ℕ, List, [], ◌∷◌, true, false, refl, inl, inr, arith}
+use Rattle.std.proofs.Common.{◌≡◌, ℕ, List, [], ◌∷◌, true, false, refl, ap, inl, inr, arith}
 use Rattle.std.proofs.lemmas.Bool.{leb-true}
 use Rattle.tardis_base.specs.Ids.{root}
 use Rattle.tardis_base.specs.Sizes.{longest_frame}
@@ -12,6 +12,7 @@ use Rattle.site_peers.specs.declared.hearing.Heard.TheVariants.{Answer, Other}
 use Rattle.site_peers.specs.declared.deeds.Failure.TheVariants.{NotABatch}
 use Rattle.site_peers.specs.declared.moments.Moment.TheVariants.{Away, Calling, Asked, Delivering}
 use Rattle.site_peers.specs.Asking.{items_of, AreStatistics}
+use Rattle.site_peers.proofs.Telling.{first_byte}
 use Rattle.site_peers.specs.Rows.{batch, statistics, question, answer, applied, peer, ExchangeIsMade, ExchangeIsSeen, NoBatchIsTold, WaitsAWhile, LateIsTold, LateAgainIsNotTold, FullGoesOnAtOnce, FullOfNoUseWaits}
 
 are_statistics : AreStatistics statistics (record { count = 3; floor = root; number = 0 } ∷ record { count = 0; floor = root; number = 0 } ∷ [])
@@ -64,7 +65,7 @@ unfolding frame
 exchange_is_seen = refl
 
 no_batch : (other : Batch) → SpellsReply applied (BatchIs other) → ⊥
-no_batch other spelled = let is = spelled.1 in absurd (cc)
+no_batch other spelled = let first : 17 ≡ 16 = ap first_byte spelled.1 in absurd (omega (arith, first))
 
 pub no_batch_is_told : NoBatchIsTold
 unfolding frame

@@ -1,6 +1,6 @@
 //! Requests of actor 0.
 
-ghost use Rattle.std.specs.Prelude.{◌≡◌, [], ◌∷◌};
+ghost use Rattle.std.specs.Prelude.{◌≡◌, ◌||◌, [], ◌∷◌};
 ghost use Rattle.site_peers.specs.Asking.{is_applied as applies};
 ghost use Rattle.site_peers.specs.Turns.{AnswersFrom};
 
@@ -30,4 +30,14 @@ pub(crate) fn is_applied(reply: &[u8]) -> bool
         [code, ..] => *code == APPLIED,
         [] => false,
     }
+}
+
+/// Whether one of both holds.
+pub(crate) fn either(one: bool, other: bool) -> bool
+    ensures { result ≡ (one || other) }
+{
+    if one {
+        return true;
+    }
+    other
 }

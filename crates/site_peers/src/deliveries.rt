@@ -8,7 +8,7 @@ ghost use Rattle.wire_item.specs.Valid.{is_batch, is_consent};
 ghost use Rattle.site_peers.specs.Asking.{items_of, delivery, any_applied};
 ghost use Rattle.site_peers.specs.Turns.{AnswersFrom};
 
-use crate::asks::{ask, is_applied};
+use crate::asks::{ask, either, is_applied};
 use rest_machine::Settling;
 use std::marker::Model;
 use tardis_base::{Batch, Consent, Record, ReplyBuf};
@@ -82,7 +82,7 @@ impl Delivery {
         for _item in 0..count {
             self.deliver_one(machine, reply);
             let applied = is_applied(reply.bytes());
-            useful = useful || applied;
+            useful = either(useful, applied);
         }
         useful
     }

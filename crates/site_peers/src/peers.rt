@@ -2,11 +2,11 @@
 
 ghost use Rattle.std.specs.Prelude.{◌≡◌, ◌*◌, ◌≤◌, ◌++◌, [], length, take};
 ghost use Rattle.tardis_base.specs.Sizes.{piece};
-ghost use Rattle.site_peers.specs.Moves.{News, Moves, Breaks, HasFailed, MayAsk, HearsOf, IsDelivering, Once, finished, fresh, waiting, listens, rest_of};
+ghost use Rattle.site_peers.specs.Moves.{News, Moves, Breaks, HasFailed, MayAsk, HearsOf, Once, finished, fresh, waiting, listens, rest_of};
 ghost use Rattle.site_peers.specs.Times.{patience};
 ghost use Rattle.site_peers.specs.Turns.{Turned, Made};
 
-use crate::asks::ask;
+use crate::asks::{ask, either};
 use crate::deeds::{Deed, Failure};
 use crate::hearing::Heard;
 use crate::moments::Moment;
@@ -56,7 +56,7 @@ impl Peer {
         ensures turned { Turned M.plain (M.stands machine.old) (M.stands machine.new) self.old News.Time now result self.new }
         ensures opening { M.opening machine.new ≡ M.opening machine.old }
     {
-        match &self.moment {
+        match &mut self.moment {
             Moment::Away { since, wait } => {
                 if passed(now, *since, *wait) {
                     self.moment = Moment::Calling { since: now };
@@ -80,7 +80,12 @@ impl Peer {
                 let since = *since;
                 self.give_up(now, since)
             }
-            Moment::Delivering { .. } => self.deliver(machine, now, reply),
+            Moment::Delivering { items, useful, .. } => {
+                let more = items.deliver_some(machine, reply);
+                *useful = either(*useful, more);
+                self.finish(now);
+                Deed::Stay
+            }
         }
     }
 
@@ -214,20 +219,6 @@ impl Peer {
             }
             None => self.fail(now, Failure::NoCounts),
         }
-    }
-
-    /// Delivers items of the answer, where there is one.
-    fn deliver<M: Settling>(&mut self, machine: &mut M, now: u64, reply: &mut ReplyBuf) -> Deed
-        requires { IsDelivering self.old.moment }
-        ensures turned { Turned M.plain (M.stands machine.old) (M.stands machine.new) self.old News.Time now result self.new }
-        ensures opening { M.opening machine.new ≡ M.opening machine.old }
-    {
-        if let Moment::Delivering { items, useful, .. } = &mut self.moment {
-            let more = items.deliver_some(machine, reply);
-            *useful = *useful || more;
-        }
-        self.finish(now);
-        Deed::Stay
     }
 
     /// Ends the exchange, where no items are left.
