@@ -2,6 +2,7 @@
 use Rattle.std.proofs.Common.{◌≡◌, ◌∙◌, ℕ, ◌+◌, ◌-◌, ◌<◌, ◌≤◌, min, Bool, true, false, List, [], ◌∷◌, ◌++◌, length, map, take, drop, ◌⊎◌, inl, inr, slice_get, Some, refl, ap, sym, subst, arith}
 use Rattle.std.specs.Prelude.{◌||◌}
 use Rattle.std.specs.List.{list_any}
+use Rattle.std.proofs.lemmas.Bool.{cases_lt}
 use Rattle.std.proofs.lemmas.List.{map-append, take_all, length-drop}
 use Rattle.tardis_base.specs.declared.records.Item.{Item}
 use Rattle.tardis_base.specs.Plain.{Event, PlainMachine, Answers, no_memory}
@@ -97,7 +98,10 @@ by_order k n xs (inr few) = (take_all k xs few.0 ∙ sym (take_all n xs few.1), 
 
 -- all of the first n, though they be fewer
 first_n : {X : Type 0} (k n : ℕ) (xs : List X) → k ≡ min (length xs) n → (take k xs ≡ take n xs) × (drop k xs ≡ drop n xs)
-first_n k n xs is = by_order k n xs (omega (arith, is))
+first_n k n xs is = elim (cases_lt (length xs) n) as (λ _. (take k xs ≡ take n xs) × (drop k xs ≡ drop n xs)) [
+  | inl few ↦ by_order k n xs (inr (omega (arith, is, few), omega (arith, few)))
+  | inr many ↦ by_order k n xs (inl (omega (arith, is, many)))
+]
 
 -- the first 64 were delivered
 pub record DeliveredAll {S : Type 0} (m : PlainMachine S) (from to : S → Type 0) (items left : List Item) (useful : Bool) : Type 0 where

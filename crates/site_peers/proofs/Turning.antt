@@ -99,19 +99,29 @@ module _ (p : Peer) (now : ℕ) (deed : Deed) (q : Peer) where
   pub through_rests : (moment : Moment) → p.moment ≡ moment → is_called moment ≡ false → deed ≡ Stay → q ≡ p → Moves p now [] [] deed q Through
   through_rests moment is fails d same = subst (λ m. OnThrough p now [] [] deed q m) (sym is) (on_through moment fails (rests d same))
 
+-- a peer is itself at its moment
+pub as_it_is : (p : Peer) (moment : Moment) → p.moment ≡ moment → at p moment ≡ p
+as_it_is p moment is = ap (λ m. at p m) (sym is)
+
 -- a call or an answer is given up, or waited for
 pub call_given_up : (p : Peer) (now : ℕ) (deed : Deed) (q : Peer) (since : ℕ) → p.moment ≡ Calling since →
-    Once p now [] [] deed q since patience (Breaks p now [] [] deed q Late) → Moves p now [] [] deed q Time
-call_given_up p now deed q since is once = subst (λ m. OnTime p now [] [] deed q m) (sym is) once
+    Once (at p (Calling since)) now [] [] deed q since patience (Breaks (at p (Calling since)) now [] [] deed q Late) → Moves p now [] [] deed q Time
+call_given_up p now deed q since is once =
+    subst (λ m. OnTime p now [] [] deed q m) (sym is)
+    (subst (λ x. Once x now [] [] deed q since patience (Breaks x now [] [] deed q Late)) (as_it_is p (Calling since) is) once)
 
 pub answer_given_up : (p : Peer) (now : ℕ) (deed : Deed) (q : Peer) (since : ℕ) (question : QuestionState) → p.moment ≡ Asked since question →
-    Once p now [] [] deed q since patience (Breaks p now [] [] deed q Late) → Moves p now [] [] deed q Time
-answer_given_up p now deed q since question is once = subst (λ m. OnTime p now [] [] deed q m) (sym is) once
+    Once (at p (Asked since question)) now [] [] deed q since patience (Breaks (at p (Asked since question)) now [] [] deed q Late) →
+    Moves p now [] [] deed q Time
+answer_given_up p now deed q since question is once =
+    subst (λ m. OnTime p now [] [] deed q m) (sym is)
+    (subst (λ x. Once x now [] [] deed q since patience (Breaks x now [] [] deed q Late)) (as_it_is p (Asked since question) is) once)
 
 pub idle_due : (p : Peer) (now : ℕ) (bodies replies : List (List ℕ)) (deed : Deed) (q : Peer) (since wait : ℕ) (passed : Bool) → p.moment ≡ Idle since wait →
-    passed ≡ has_passed now since wait → passed ≡ true → MayAsk p now bodies replies deed q → Moves p now bodies replies deed q Time
+    passed ≡ has_passed now since wait → passed ≡ true → MayAsk (at p (Idle since wait)) now bodies replies deed q → Moves p now bodies replies deed q Time
 idle_due p now bodies replies deed q since wait passed is t so may =
-    subst (λ m. OnTime p now bodies replies deed q m) (sym is) (inl (leb-true wait (now - since) (sym t ∙ so), may))
+    subst (λ m. OnTime p now bodies replies deed q m) (sym is)
+    (inl (leb-true wait (now - since) (sym t ∙ so), subst (λ x. MayAsk x now bodies replies deed q) (as_it_is p (Idle since wait) is) may))
 
 left_same : (p : Peer) (moment : Moment) (now : ℕ) (left : List Item) (connected full useful : Bool) →
     with_left (at p moment) now left connected full useful ≡ with_left p now left connected full useful
@@ -122,7 +132,7 @@ pub items_delivered : {S : Type 0} (m : PlainMachine S) (from to : S → Type 0)
     (connected full useful more any : Bool) → p.moment ≡ Delivering items connected full useful → left ≡ drop most_a_turn items →
     (replies : List (List ℕ)) × (AnswersFrom m from to (map delivery (take most_a_turn items)) replies × (more ≡ any_applied replies)) →
     any ≡ (useful || more) → q ≡ with_left (at p (Delivering left connected full any)) now left connected full any → Turned m from to p Time now Stay q
-items_delivered m from to p now q items left connected full useful more any is left_is (replies, answered, more_is) any_is next = record {
+items_delivered m from to p now q items left connected full useful more any is left_is (replies, (answered, more_is)) any_is next = record {
   bodies = map delivery (take most_a_turn items);
   replies = replies;
   answered = answered;

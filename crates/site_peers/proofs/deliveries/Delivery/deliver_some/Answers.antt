@@ -9,7 +9,7 @@ loop-item-preserved g c =
     record {
       delivered = delivered_more g.M.Settling.plain (g.M.Settling.stands c.args.machine.now) (g.M.Settling.stands c.loop-item.machine)
           (g.M.Settling.stands c.deliver_one.new.machine) c.args.self.now c.loop-item._item c.loop-item.self c.loop-item.useful d.0 c.deliver_one.new.self
-          c.deliver_one.new.reply c.is_applied-applied.result c.either-useful.result c.loop-item.invariant.delivered d.1 d.2
+          c.deliver_one.new.reply c.is_applied-applied.result c.either-useful.result c.loop-item.invariant.delivered d.1.0 d.1.1
           (c.is_applied-applied.ensures ∙ ap is_applied c.bytes.ensures.same) c.either-useful.ensures;
       opening = c.deliver_one.ensures.opening ∙ c.loop-item.invariant.opening;
     }

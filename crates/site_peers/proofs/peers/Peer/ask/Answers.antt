@@ -23,7 +23,7 @@ returns-in-Some-clause-asked g c =
         reply = c.ask.new.reply;
         asked = refl;
         replied = refl;
-        way = inl (record { lines = told.0; counts = told.1; deed_is = refl; next = ap (λ q. at c.args.self.now (Asked c.args.now q)) told.2 });
+        way = inl (record { lines = told.0; counts = told.1.0; deed_is = refl; next = ap (λ q. at c.args.self.now (Asked c.args.now q)) told.1.1 });
       });
     }
 
@@ -36,6 +36,6 @@ returns-in-None-clause-asked g c = record {
     reply = c.ask.new.reply;
     asked = refl;
     replied = refl;
-    way = inr (record { no_counts = c.in-None.ensures.none; failed = c.fail.ensures });
+    way = inr (record { no_counts = c.in-None.ensures.none; failed = c.fail-in-None.ensures });
   });
 }
