@@ -1,0 +1,9 @@
+-- Lemmas on a peer's turns.
+mod Items
+mod Counts
+mod Telling
+mod Delivering
+mod Turning
+mod Shortness
+mod Worked
+mod Exchanging

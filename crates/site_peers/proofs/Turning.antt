@@ -1,0 +1,147 @@
+-- What the peer's calls do, as turns.
+use Rattle.std.proofs.Common.{◌≡◌, ◌∙◌, ℕ, ◌+◌, ◌-◌, ◌<◌, ◌≤◌, Bool, true, false, List, [], ◌∷◌, ◌++◌, length, map, take, drop, ◌⊎◌, inl, inr, refl, ap, sym, subst, arith, IsTrue}
+use Rattle.std.specs.Prelude.{◌&&◌, ◌||◌, ◌==◌, nat_le, if◌then◌else◌}
+use Rattle.std.proofs.lemmas.Bool.{leb-true, leb-false}
+use Rattle.tardis_base.specs.declared.records.Item.{Item}
+use Rattle.tardis_base.specs.Plain.{PlainMachine}
+use Rattle.site_peers.specs.declared.deeds.Deed.{Deed}
+use Rattle.site_peers.specs.declared.deeds.Deed.TheVariants.{Stay, Call, Close, Fail}
+use Rattle.site_peers.specs.declared.deeds.Failure.{Failure}
+use Rattle.site_peers.specs.declared.deeds.Failure.TheVariants.{NotReached, Late, Cut, Unasked, NoCounts, NoMemory}
+use Rattle.site_peers.specs.declared.moments.Moment.{Moment}
+use Rattle.site_peers.specs.declared.moments.Moment.TheVariants.{Away, Calling, Idle, Asked, Delivering}
+use Rattle.site_peers.specs.declared.peers.Peer.{Peer}
+use Rattle.site_peers.specs.Questions.{QuestionState}
+use Rattle.site_peers.specs.Asking.{delivery, any_applied}
+use Rattle.site_peers.specs.Times.{patience, first_pause, has_passed}
+use Rattle.site_peers.specs.Moves.{News, Time, Through, Over, Came, Sent, most_a_turn, at, failed, with_left, alone, Rests, Becomes, HasFailed, Breaks, Once, MayAsk, Delivers, HearsOf, Moves, OnTime, OnThrough, OnOver, OnBytes, OnCame, OnSent, IsDelivering, has_connection, is_called, waiting}
+use Rattle.site_peers.specs.Turns.{Answered, AnswersFrom, Made, Turned}
+
+-- nothing is asked of the machine, which is as before
+pub turned_alone : {S : Type 0} (m : PlainMachine S) (at_first : S → Type 0) (p : Peer) (news : News) (now : ℕ) (deed : Deed) (q : Peer) →
+    Moves p now [] [] deed q news → Turned m at_first at_first p news now deed q
+turned_alone m at_first p news now deed q moves = record {
+  bodies = [];
+  replies = [];
+  answered = λ s f. record { state = s; answers = refl; stands = f };
+  does = moves;
+}
+
+pub made_as : {S : Type 0} (m : PlainMachine S) (from to : S → Type 0) (P Q : List (List ℕ) → List (List ℕ) → Type 0) → Made m from to P →
+    ((bodies replies : List (List ℕ)) → P bodies replies → Q bodies replies) → Made m from to Q
+made_as m from to P Q made f = record {
+  bodies = made.bodies;
+  replies = made.replies;
+  answered = made.answered;
+  does = f made.bodies made.replies made.does;
+}
+
+module _ (p : Peer) (now : ℕ) (deed : Deed) (q : Peer) where
+  rests : deed ≡ Stay → q ≡ p → Rests p now [] [] deed q
+  rests d same = record { none = (refl, refl); deed_is = d; same = same }
+
+  becomes : (e : Deed) (moment : Moment) → deed ≡ e → q ≡ at p moment → Becomes p now [] [] deed q e moment
+  becomes e moment d n = record { none = (refl, refl); deed_is = d; next = n }
+
+  breaks : (why : Failure) → HasFailed p now deed q why → Breaks p now [] [] deed q why
+  breaks why f = record { none = (refl, refl); failed = f }
+
+  once : (since wait : ℕ) (passed : Bool) (P : Type 0) → passed ≡ has_passed now since wait → passed ≡ true → P → Once p now [] [] deed q since wait P
+  once since wait passed P is so holds = inl (leb-true wait (now - since) (sym is ∙ so), holds)
+
+  until : (since wait : ℕ) (passed : Bool) (P : Type 0) → passed ≡ has_passed now since wait → passed ≡ false → Rests p now [] [] deed q →
+      Once p now [] [] deed q since wait P
+  until since wait passed P is fails r = inr (leb-false wait (now - since) (sym is ∙ fails), r)
+
+  pub away_due : (since wait : ℕ) (passed : Bool) → p.moment ≡ Away since wait → passed ≡ has_passed now since wait → passed ≡ true → deed ≡ Call →
+      q ≡ at p (Calling now) → Moves p now [] [] deed q Time
+  away_due since wait passed is t holds d n = subst (λ m. OnTime p now [] [] deed q m) (sym is)
+      (once since wait passed (Becomes p now [] [] deed q Call (Calling now)) t holds (becomes Call (Calling now) d n))
+
+  pub away_waits : (since wait : ℕ) (passed : Bool) → p.moment ≡ Away since wait → passed ≡ has_passed now since wait → passed ≡ false → deed ≡ Stay →
+      q ≡ p → Moves p now [] [] deed q Time
+  away_waits since wait passed is t fails d same = subst (λ m. OnTime p now [] [] deed q m) (sym is)
+      (until since wait passed (Becomes p now [] [] deed q Call (Calling now)) t fails (rests d same))
+
+  pub idle_waits : (since wait : ℕ) (passed : Bool) → p.moment ≡ Idle since wait → passed ≡ has_passed now since wait → passed ≡ false → deed ≡ Stay →
+      q ≡ p → Moves p now [] [] deed q Time
+  idle_waits since wait passed is t fails d same = subst (λ m. OnTime p now [] [] deed q m) (sym is)
+      (until since wait passed (MayAsk p now [] [] deed q) t fails (rests d same))
+
+  pub call_late : (since : ℕ) (passed : Bool) → p.moment ≡ Calling since → passed ≡ has_passed now since patience → passed ≡ true →
+      HasFailed p now deed q Late → Moves p now [] [] deed q Time
+  call_late since passed is t holds f = subst (λ m. OnTime p now [] [] deed q m) (sym is)
+      (once since patience passed (Breaks p now [] [] deed q Late) t holds (breaks Late f))
+
+  pub call_waits : (since : ℕ) (passed : Bool) → p.moment ≡ Calling since → passed ≡ has_passed now since patience → passed ≡ false → deed ≡ Stay →
+      q ≡ p → Moves p now [] [] deed q Time
+  call_waits since passed is t fails d same = subst (λ m. OnTime p now [] [] deed q m) (sym is)
+      (until since patience passed (Breaks p now [] [] deed q Late) t fails (rests d same))
+
+  pub answer_late : (since : ℕ) (question : QuestionState) (passed : Bool) → p.moment ≡ Asked since question → passed ≡ has_passed now since patience →
+      passed ≡ true → HasFailed p now deed q Late → Moves p now [] [] deed q Time
+  answer_late since question passed is t holds f = subst (λ m. OnTime p now [] [] deed q m) (sym is)
+      (once since patience passed (Breaks p now [] [] deed q Late) t holds (breaks Late f))
+
+  pub answer_waits : (since : ℕ) (question : QuestionState) (passed : Bool) → p.moment ≡ Asked since question → passed ≡ has_passed now since patience →
+      passed ≡ false → deed ≡ Stay → q ≡ p → Moves p now [] [] deed q Time
+  answer_waits since question passed is t fails d same = subst (λ m. OnTime p now [] [] deed q m) (sym is)
+      (until since patience passed (Breaks p now [] [] deed q Late) t fails (rests d same))
+
+  on_through : (moment : Moment) → is_called moment ≡ false → Rests p now [] [] deed q → OnThrough p now [] [] deed q moment
+  on_through (Away since wait) fails r = r
+  on_through (Calling since) fails r = absurd (cc)
+  on_through (Idle since wait) fails r = r
+  on_through (Asked since question) fails r = r
+  on_through (Delivering items connected full useful) fails r = r
+
+  -- a call that came through, where there is none
+  pub through_rests : (moment : Moment) → p.moment ≡ moment → is_called moment ≡ false → deed ≡ Stay → q ≡ p → Moves p now [] [] deed q Through
+  through_rests moment is fails d same = subst (λ m. OnThrough p now [] [] deed q m) (sym is) (on_through moment fails (rests d same))
+
+-- a peer is itself at its moment
+pub as_it_is : (p : Peer) (moment : Moment) → p.moment ≡ moment → at p moment ≡ p
+as_it_is p moment is = ap (λ m. at p m) (sym is)
+
+-- a call or an answer is given up, or waited for
+pub call_given_up : (p : Peer) (now : ℕ) (deed : Deed) (q : Peer) (since : ℕ) → p.moment ≡ Calling since →
+    Once (at p (Calling since)) now [] [] deed q since patience (Breaks (at p (Calling since)) now [] [] deed q Late) → Moves p now [] [] deed q Time
+call_given_up p now deed q since is once =
+    subst (λ m. OnTime p now [] [] deed q m) (sym is)
+    (subst (λ x. Once x now [] [] deed q since patience (Breaks x now [] [] deed q Late)) (as_it_is p (Calling since) is) once)
+
+pub answer_given_up : (p : Peer) (now : ℕ) (deed : Deed) (q : Peer) (since : ℕ) (question : QuestionState) → p.moment ≡ Asked since question →
+    Once (at p (Asked since question)) now [] [] deed q since patience (Breaks (at p (Asked since question)) now [] [] deed q Late) →
+    Moves p now [] [] deed q Time
+answer_given_up p now deed q since question is once =
+    subst (λ m. OnTime p now [] [] deed q m) (sym is)
+    (subst (λ x. Once x now [] [] deed q since patience (Breaks x now [] [] deed q Late)) (as_it_is p (Asked since question) is) once)
+
+pub idle_due : (p : Peer) (now : ℕ) (bodies replies : List (List ℕ)) (deed : Deed) (q : Peer) (since wait : ℕ) (passed : Bool) → p.moment ≡ Idle since wait →
+    passed ≡ has_passed now since wait → passed ≡ true → MayAsk (at p (Idle since wait)) now bodies replies deed q → Moves p now bodies replies deed q Time
+idle_due p now bodies replies deed q since wait passed is t so may =
+    subst (λ m. OnTime p now bodies replies deed q m) (sym is)
+    (inl (leb-true wait (now - since) (sym t ∙ so), subst (λ x. MayAsk x now bodies replies deed q) (as_it_is p (Idle since wait) is) may))
+
+left_same : (p : Peer) (moment : Moment) (now : ℕ) (left : List Item) (connected full useful : Bool) →
+    with_left (at p moment) now left connected full useful ≡ with_left p now left connected full useful
+left_same p moment now [] connected full useful = refl
+left_same p moment now (item ∷ items) connected full useful = refl
+
+pub items_delivered : {S : Type 0} (m : PlainMachine S) (from to : S → Type 0) (p : Peer) (now : ℕ) (q : Peer) (items left : List Item)
+    (connected full useful more any : Bool) → p.moment ≡ Delivering items connected full useful → left ≡ drop most_a_turn items →
+    (replies : List (List ℕ)) × (AnswersFrom m from to (map delivery (take most_a_turn items)) replies × (more ≡ any_applied replies)) →
+    any ≡ (useful || more) → q ≡ with_left (at p (Delivering left connected full any)) now left connected full any → Turned m from to p Time now Stay q
+items_delivered m from to p now q items left connected full useful more any is left_is (replies, (answered, more_is)) any_is next = record {
+  bodies = map delivery (take most_a_turn items);
+  replies = replies;
+  answered = answered;
+  does = subst (λ moment. OnTime p now (map delivery (take most_a_turn items)) replies Stay q moment) (sym is) (record {
+    asked = refl;
+    deed_is = refl;
+    next = next
+        ∙ (left_same p (Delivering left connected full any) now left connected full any
+        ∙ (ap (λ l. with_left p now l connected full any) left_is
+        ∙ ap (λ b. with_left p now (drop most_a_turn items) connected full b) (any_is ∙ ap (λ b. useful || b) more_is)));
+  });
+}

@@ -1,0 +1,91 @@
+-- The worked turns.
+use Rattle.std.proofs.Common.{◌≡◌, ℕ, List, [], ◌∷◌, true, false, refl, ap, inl, inr, arith}
+use Rattle.std.proofs.lemmas.Bool.{leb-true}
+use Rattle.tardis_base.specs.Ids.{root}
+use Rattle.tardis_base.specs.Sizes.{longest_frame}
+use Rattle.tardis_base.specs.declared.records.Batch.{Batch}
+use Rattle.tardis_base.specs.declared.replies.Reply.TheVariants.{Stat as Statistics, Batch as BatchIs, Applied}
+use Rattle.frame_cut.specs.Frames.{frame}
+use Rattle.wire_talk.specs.Spellings.{reply_spelling}
+use Rattle.wire_talk.specs.Spelled.{SpellsReply}
+use Rattle.site_peers.specs.declared.hearing.Heard.TheVariants.{Answer, Other}
+use Rattle.site_peers.specs.declared.deeds.Failure.TheVariants.{NotABatch}
+use Rattle.site_peers.specs.declared.moments.Moment.TheVariants.{Away, Calling, Asked, Delivering}
+use Rattle.site_peers.specs.Asking.{items_of, AreStatistics}
+use Rattle.site_peers.proofs.Telling.{first_byte}
+use Rattle.site_peers.specs.Rows.{batch, statistics, question, answer, applied, peer, ExchangeIsMade, ExchangeIsSeen, NoBatchIsTold, WaitsAWhile, LateIsTold, LateAgainIsNotTold, FullGoesOnAtOnce, FullOfNoUseWaits}
+
+are_statistics : AreStatistics statistics (record { count = 3; floor = root; number = 0 } ∷ record { count = 0; floor = root; number = 0 } ∷ [])
+are_statistics = record {
+  told = Statistics 3 3 1 0 (record { count = 3; floor = root; number = 0 } ∷ record { count = 0; floor = root; number = 0 } ∷ []);
+  spelled = (refl, refl);
+  states = refl;
+}
+
+pub exchange_is_made : ExchangeIsMade
+unfolding frame
+exchange_is_made = (
+  peer 1000 (Delivering (items_of batch) true false false),
+  (
+    peer 1000 (Asked 9 (record { left = []; came = [] })),
+    (
+      peer 1000 (Asked 9 (record { left = question; came = [] })),
+      (
+        peer 1000 (Calling 7),
+        (
+          peer 1000 (Away 0 0),
+          refl,
+          inl (omega arith, record { none = (refl, refl); deed_is = refl; next = refl }),
+        ),
+        inl (record {
+          reply = statistics;
+          asked = refl;
+          replied = refl;
+          way = inl (record {
+            lines = record { count = 3; floor = root; number = 0 } ∷ record { count = 0; floor = root; number = 0 } ∷ [];
+            counts = are_statistics;
+            deed_is = refl;
+            next = refl;
+          });
+        }),
+      ),
+      record { left = []; front = refl; becomes = record { none = (refl, refl); deed_is = refl; next = refl } },
+    ),
+    record {
+      heard = Answer (items_of batch) false;
+      is = (reply_spelling (BatchIs batch), batch, record { is_body = leb-true 54 longest_frame refl; whole = refl }, (refl, refl), refl, refl);
+      uses = record { none = (refl, refl); deed_is = refl; next = refl };
+    },
+  ),
+  record { asked = refl; deed_is = refl; next = refl },
+)
+
+pub exchange_is_seen : ExchangeIsSeen
+unfolding frame
+exchange_is_seen = refl
+
+no_batch : (other : Batch) → SpellsReply applied (BatchIs other) → ⊥
+no_batch other spelled = let first : 17 ≡ 16 = ap first_byte spelled.1 in absurd (omega (arith, first))
+
+pub no_batch_is_told : NoBatchIsTold
+unfolding frame
+no_batch_is_told = record {
+  heard = Other NotABatch;
+  is = (applied, record { is_body = leb-true 1 longest_frame refl; whole = refl }, no_batch);
+  uses = record { none = (refl, refl); failed = record { deed_is = refl; next = refl } };
+}
+
+pub waits_a_while : WaitsAWhile
+waits_a_while = inr (omega arith, record { none = (refl, refl); deed_is = refl; same = refl })
+
+pub late_is_told : LateIsTold
+late_is_told = inl (omega arith, record { none = (refl, refl); failed = record { deed_is = refl; next = refl } })
+
+pub late_again_is_not_told : LateAgainIsNotTold
+late_again_is_not_told = inl (omega arith, record { none = (refl, refl); failed = record { deed_is = refl; next = refl } })
+
+pub full_goes_on_at_once : FullGoesOnAtOnce
+full_goes_on_at_once = record { asked = refl; deed_is = refl; next = refl }
+
+pub full_of_no_use_waits : FullOfNoUseWaits
+full_of_no_use_waits = record { asked = refl; deed_is = refl; next = refl }

@@ -1,0 +1,26 @@
+use Rattle.site_peers.proofs.Worked.{exchange_is_made, exchange_is_seen, no_batch_is_told, waits_a_while, late_is_told, late_again_is_not_told, full_goes_on_at_once, full_of_no_use_waits}
+use Rattle.site_peers.proofs.laws.turns_are_as_worked.Goals as goal
+
+pub returns-clause-made : goal.returns-clause-made
+returns-clause-made c = exchange_is_made
+
+pub returns-clause-seen : goal.returns-clause-seen
+returns-clause-seen c = exchange_is_seen
+
+pub returns-clause-no_batch : goal.returns-clause-no_batch
+returns-clause-no_batch c = no_batch_is_told
+
+pub returns-clause-waits : goal.returns-clause-waits
+returns-clause-waits c = waits_a_while
+
+pub returns-clause-late : goal.returns-clause-late
+returns-clause-late c = late_is_told
+
+pub returns-clause-late_again : goal.returns-clause-late_again
+returns-clause-late_again c = late_again_is_not_told
+
+pub returns-clause-full : goal.returns-clause-full
+returns-clause-full c = full_goes_on_at_once
+
+pub returns-clause-of_no_use : goal.returns-clause-of_no_use
+returns-clause-of_no_use c = full_of_no_use_waits

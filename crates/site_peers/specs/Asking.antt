@@ -1,0 +1,59 @@
+-- What an exchange with a peer asks: of the own site by actor 0, and of the peer.
+use Rattle.std.specs.Prelude.{◌≡◌, ℕ, ◌==◌, Bool, false, List, [], ◌∷◌, ◌++◌, map}
+use Rattle.std.specs.List.{list_any}
+use Rattle.tardis_base.specs.declared.records.Item.{Item}
+use Rattle.tardis_base.specs.declared.records.Item.TheVariants.{State, Promise}
+use Rattle.tardis_base.specs.declared.records.Batch.{Batch}
+use Rattle.tardis_base.specs.declared.requests.Request.TheVariants.{Stat, Deliver, Pull}
+use Rattle.tardis_base.specs.declared.replies.SiteLine.{SiteLine}
+use Rattle.tardis_base.specs.declared.replies.Reply.{Reply}
+use Rattle.tardis_base.specs.declared.replies.Reply.TheVariants.{Stat as Statistics}
+use Rattle.tardis_base.specs.Plain.{Event}
+use Rattle.frame_cut.specs.Frames.{frame}
+use Rattle.wire_item.specs.Spellings.{u32_spelling}
+use Rattle.wire_talk.specs.Spellings.{request_spelling}
+use Rattle.wire_talk.specs.Spelled.{SpellsReply}
+use Rattle.wire_talk.specs.declared.reply_codes.TheConstants.{APPLIED}
+
+-- these requests, by actor 0
+abbrev pub by_nobody : List (List ℕ) → List Event
+by_nobody bodies = map (λ body. (0, body)) bodies
+
+-- how many states of each site are known here
+abbrev pub stat : List ℕ
+stat = request_spelling Stat
+
+-- here is an item of a peer's
+abbrev pub delivery : Item → List ℕ
+delivery item = request_spelling (Deliver item)
+
+-- what a batch delivers: its records, then its consents
+abbrev pub items_of : Batch → List Item
+items_of batch = map State batch.records ++ map Promise batch.consents
+
+-- the reply is statistics with these lines, one for each site
+abbrev pub StatesLines : Reply → List SiteLine → Type 0
+StatesLines (Statistics known kept leaves sessions sites) lines = lines ≡ sites
+StatesLines _ lines = ⊥
+
+-- the bytes spell statistics with these lines
+pub record AreStatistics (bytes : List ℕ) (lines : List SiteLine) : Type 0 where
+  pub told : Reply
+  pub spelled : SpellsReply bytes told
+  pub states : StatesLines told lines
+
+-- the frame that asks a peer for what is above the counts of these lines
+abbrev pub pull_frame : List SiteLine → List ℕ
+pull_frame lines = frame (request_spelling (Pull (map (λ line. line.count) lines)))
+
+-- the count of a line, in bytes
+abbrev pub count_spelling : SiteLine → List ℕ
+count_spelling line = u32_spelling line.count
+
+-- the reply says that the item was applied
+abbrev pub is_applied : List ℕ → Bool
+is_applied [] = false
+is_applied (code ∷ bytes) = code == APPLIED
+
+abbrev pub any_applied : List (List ℕ) → Bool
+any_applied replies = list_any is_applied replies

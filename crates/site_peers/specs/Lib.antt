@@ -1,0 +1,9 @@
+-- What a peer of a server does of what the edge tells, and runs of it.
+pub mod Asking
+pub mod Questions
+pub mod Hearing
+pub mod Times
+pub mod Moves
+pub mod Turns
+pub mod Runs
+pub mod Rows

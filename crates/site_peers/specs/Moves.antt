@@ -1,0 +1,231 @@
+-- What a peer does of what the edge tells.
+use Rattle.std.specs.Prelude.{◌≡◌, ◌≢◌, ℕ, ◌-◌, ◌<◌, ◌≤◌, ◌==◌, Bool, true, false, ◌&&◌, ◌||◌, List, [], ◌∷◌, ◌++◌, map, take, drop, ◌⊎◌, if◌then◌else◌}
+use Rattle.tardis_base.specs.declared.records.Item.{Item}
+use Rattle.tardis_base.specs.declared.replies.SiteLine.{SiteLine}
+use Rattle.site_peers.specs.declared.deeds.Deed.{Deed}
+use Rattle.site_peers.specs.declared.deeds.Deed.TheVariants.{Stay, Call, Close, Fail}
+use Rattle.site_peers.specs.declared.deeds.Failure.{Failure}
+use Rattle.site_peers.specs.declared.deeds.Failure.TheVariants.{NotReached, Late, Cut, Unasked, NoCounts, NoMemory}
+use Rattle.site_peers.specs.declared.hearing.Heard.{Heard}
+use Rattle.site_peers.specs.declared.hearing.Heard.TheVariants.{More, Answer, Other}
+use Rattle.site_peers.specs.declared.moments.Moment.{Moment}
+use Rattle.site_peers.specs.declared.moments.Moment.TheVariants.{Away, Calling, Idle, Asked, Delivering}
+use Rattle.site_peers.specs.declared.peers.Peer.{Peer}
+use Rattle.site_peers.specs.declared.deliveries.TheConstants.{ITEMS_A_TURN}
+use Rattle.site_peers.specs.Questions.{QuestionState}
+use Rattle.site_peers.specs.Asking.{stat, delivery, AreStatistics, pull_frame, any_applied}
+use Rattle.site_peers.specs.Hearing.{IsHeard}
+use Rattle.site_peers.specs.Times.{patience, first_pause, longer}
+
+-- What the edge tells of a peer: the time alone; that the call came through; that the call failed or the connection is over; bytes that came
+-- of it; or how many of the bytes that waited were written to it.
+pub data News : Type 0 where
+  Time : News
+  Through : News
+  Over : News
+  Came : (bytes : List ℕ) → News
+  Sent : (bytes : List ℕ) → News
+
+-- the most items that are delivered in a turn
+abbrev pub most_a_turn : ℕ
+most_a_turn = ITEMS_A_TURN
+
+-- a peer at first: it is called at once
+abbrev pub fresh : ℕ → Peer
+fresh every = record { every = every; pause = first_pause; moment = Away 0 0 }
+
+-- the peer, at another moment
+abbrev pub at : Peer → Moment → Peer
+at p moment = record { every = p.every; pause = p.pause; moment = moment }
+
+-- the peer behind an exchange that failed: it is left alone for its pause, and the next pause is longer
+abbrev pub failed : Peer → (now : ℕ) → Peer
+failed p now = record { every = p.every; pause = longer p.pause; moment = Away now p.pause }
+
+-- a peer whose exchange is over, with its connection or without
+abbrev pub alone : (connected : Bool) → (now wait : ℕ) → Moment
+alone true now wait = Idle now wait
+alone false now wait = Away now wait
+
+-- The peer once these items are left to be delivered. With none left the exchange is done: no failure counts any more, and the next one follows
+-- at once where the batch was full and of some use, and else as often as exchanges are made.
+abbrev pub with_left : Peer → (now : ℕ) → List Item → (connected full useful : Bool) → Peer
+with_left p now [] connected full useful =
+    record { every = p.every; pause = first_pause; moment = alone connected now (if full && useful then 0 else p.every) }
+with_left p now (item ∷ items) connected full useful = at p (Delivering (item ∷ items) connected full useful)
+
+-- the peer once no item is left to be delivered
+abbrev pub finished : Peer → (now : ℕ) → Moment → Peer
+finished p now (Delivering items connected full useful) = with_left p now items connected full useful
+finished p now _ = p
+
+-- The exchange failed at this time, which is told unless the one before failed too.
+pub record HasFailed (p : Peer) (now : ℕ) (deed : Deed) (q : Peer) (why : Failure) : Type 0 where
+  pub deed_is : deed ≡ Fail why (p.pause == first_pause)
+  pub next : q ≡ failed p now
+
+-- A turn of the peer p at this time: these requests were asked by actor 0 and so replied, this is asked of the edge, and p became q.
+module _ (p : Peer) (now : ℕ) (bodies replies : List (List ℕ)) (deed : Deed) (q : Peer) where
+  abbrev pub AsksNothing : Type 0
+  AsksNothing = (bodies ≡ []) × (replies ≡ [])
+
+  -- nothing is done
+  pub record Rests : Type 0 where
+    pub none : AsksNothing
+    pub deed_is : deed ≡ Stay
+    pub same : q ≡ p
+
+  -- this is asked of the edge, and the moment is another
+  pub record Becomes (d : Deed) (moment : Moment) : Type 0 where
+    pub none : AsksNothing
+    pub deed_is : deed ≡ d
+    pub next : q ≡ at p moment
+
+  -- it failed and the site wasn't asked anything
+  pub record Breaks (why : Failure) : Type 0 where
+    pub none : AsksNothing
+    pub failed : HasFailed p now deed q why
+
+  -- once so long has passed P, and until then nothing
+  abbrev pub Once : (since wait : ℕ) → Type 0 → Type 0
+  Once since wait P = ((wait ≤ now - since) × P) ⊎ ((now - since < wait) × Rests)
+
+  -- the reply to Stat has these counts, and the peer is to be asked for what is above them
+  pub record Pulls (reply : List ℕ) : Type 0 where
+    pub lines : List SiteLine
+    pub counts : AreStatistics reply lines
+    pub deed_is : deed ≡ Stay
+    pub next : q ≡ at p (Asked now (record { left = pull_frame lines; came = [] }))
+
+  -- the reply to Stat has no counts
+  pub record TellsNone (reply : List ℕ) : Type 0 where
+    pub no_counts : (lines : List SiteLine) → AreStatistics reply lines → ⊥
+    pub failed : HasFailed p now deed q NoCounts
+
+  -- the site was asked Stat, and by its reply the peer is
+  pub record Asks : Type 0 where
+    pub reply : List ℕ
+    pub asked : bodies ≡ stat ∷ []
+    pub replied : replies ≡ reply ∷ []
+    pub way : Pulls reply ⊎ TellsNone reply
+
+  -- so it is, or there was no memory for the question
+  abbrev pub MayAsk : Type 0
+  MayAsk = Asks ⊎ Breaks NoMemory
+
+  -- the first items were delivered, in order, and the others are left
+  pub record Delivers (items : List Item) (connected full useful : Bool) : Type 0 where
+    pub asked : bodies ≡ map delivery (take most_a_turn items)
+    pub deed_is : deed ≡ Stay
+    pub next : q ≡ with_left p now (drop most_a_turn items) connected full (useful || any_applied replies)
+
+  -- what the time says
+  abbrev pub OnTime : Moment → Type 0
+  OnTime (Away since wait) = Once since wait (Becomes Call (Calling now))
+  OnTime (Calling since) = Once since patience (Breaks Late)
+  OnTime (Idle since wait) = Once since wait MayAsk
+  OnTime (Asked since question) = Once since patience (Breaks Late)
+  OnTime (Delivering items connected full useful) = Delivers items connected full useful
+
+  -- the call came through
+  abbrev pub OnThrough : Moment → Type 0
+  OnThrough (Calling since) = MayAsk
+  OnThrough _ = Rests
+
+  -- The call failed, or the connection is over. What was heard before is delivered all the same, and a connection that is over while nothing is
+  -- asked is no failure.
+  abbrev pub OnOver : Moment → Type 0
+  OnOver (Away since wait) = Rests
+  OnOver (Calling since) = Breaks NotReached
+  OnOver (Idle since wait) = Becomes Close (Away since wait)
+  OnOver (Asked since question) = Breaks Cut
+  OnOver (Delivering items true full useful) = Becomes Close (Delivering items false full useful)
+  OnOver (Delivering items false full useful) = Rests
+
+  abbrev pub Uses : (since : ℕ) → Heard → Type 0
+  Uses since (More question) = Becomes Stay (Asked since question)
+  Uses since (Answer items full) = Becomes Stay (Delivering items true full false)
+  Uses since (Other why) = Breaks why
+
+  -- all that came since the question is this
+  pub record Hears (since : ℕ) (left came : List ℕ) : Type 0 where
+    pub heard : Heard
+    pub is : IsHeard left came heard
+    pub uses : Uses since heard
+
+  -- an answer to a question that wasn't written whole wasn't asked for
+  abbrev pub HearsOf : (since : ℕ) → (left came : List ℕ) → Type 0
+  HearsOf since [] came = Hears since [] came
+  HearsOf since (byte ∷ left) came = Breaks Unasked
+
+  -- bytes came
+  abbrev pub OnBytes : List ℕ → Moment → Type 0
+  OnBytes bytes (Away since wait) = Rests
+  OnBytes bytes (Calling since) = Rests
+  OnBytes bytes (Idle since wait) = Breaks Unasked
+  OnBytes bytes (Asked since question) = HearsOf since question.left (question.came ++ bytes)
+  OnBytes bytes (Delivering items true full useful) = Breaks Unasked
+  OnBytes bytes (Delivering items false full useful) = Rests
+
+  abbrev pub OnCame : List ℕ → Moment → Type 0
+  OnCame [] moment = Rests
+  OnCame (byte ∷ bytes) moment = OnBytes (byte ∷ bytes) moment
+
+  -- a front of the question was written
+  pub record Writes (since : ℕ) (question : QuestionState) (bytes : List ℕ) : Type 0 where
+    pub left : List ℕ
+    pub front : question.left ≡ bytes ++ left
+    pub becomes : Becomes Stay (Asked since (record { left = left; came = question.came }))
+
+  -- where nothing is asked no bytes wait
+  pub record WritesNone (bytes : List ℕ) : Type 0 where
+    pub none_waits : bytes ≡ []
+    pub rests : Rests
+
+  -- bytes were written
+  abbrev pub OnSent : List ℕ → Moment → Type 0
+  OnSent bytes (Asked since question) = Writes since question bytes
+  OnSent bytes _ = WritesNone bytes
+
+  -- what the peer does of what the edge tells
+  abbrev pub Moves : News → Type 0
+  Moves Time = OnTime p.moment
+  Moves Through = OnThrough p.moment
+  Moves Over = OnOver p.moment
+  Moves (Came bytes) = OnCame bytes p.moment
+  Moves (Sent bytes) = OnSent bytes p.moment
+
+-- items of an answer are being delivered
+abbrev pub IsDelivering : Moment → Type 0
+IsDelivering (Delivering items connected full useful) = Unit {0}
+IsDelivering _ = ⊥
+
+-- the peer has a connection
+abbrev pub has_connection : Moment → Bool
+has_connection (Idle since wait) = true
+has_connection (Asked since question) = true
+has_connection (Delivering items connected full useful) = connected
+has_connection _ = false
+
+abbrev pub is_called : Moment → Bool
+is_called (Calling since) = true
+is_called _ = false
+
+-- the bytes that are to be written to the peer
+abbrev pub waiting : Moment → List ℕ
+waiting (Asked since question) = question.left
+waiting _ = []
+
+-- bytes of the peer are read: it is asked, or it has a connection and nothing is asked of it
+abbrev pub listens : Moment → Bool
+listens (Idle since wait) = true
+listens (Asked since question) = true
+listens _ = false
+
+-- how long it is until the time says anything
+abbrev pub rest_of : Moment → (now : ℕ) → ℕ
+rest_of (Away since wait) now = wait - (now - since)
+rest_of (Calling since) now = patience - (now - since)
+rest_of (Idle since wait) now = wait - (now - since)
+rest_of (Asked since question) now = patience - (now - since)
+rest_of (Delivering items connected full useful) now = 0

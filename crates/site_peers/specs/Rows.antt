@@ -1,0 +1,105 @@
+-- Worked turns of a peer with which an exchange is made every 5 seconds.
+use Rattle.std.specs.Prelude.{◌≡◌, ℕ, Bool, true, false, List, [], ◌∷◌, map}
+use Rattle.tardis_base.specs.Ids.{root}
+use Rattle.tardis_base.specs.declared.records.Write.TheVariants.{Delete}
+use Rattle.tardis_base.specs.declared.records.Record.{Record}
+use Rattle.tardis_base.specs.declared.records.Consent.{Consent}
+use Rattle.tardis_base.specs.declared.records.Item.{Item}
+use Rattle.tardis_base.specs.declared.records.Item.TheVariants.{State, Promise}
+use Rattle.tardis_base.specs.declared.records.Batch.{Batch}
+use Rattle.tardis_base.specs.declared.replies.Reply.{Reply}
+use Rattle.tardis_base.specs.declared.replies.Reply.TheVariants.{Stat as Statistics, Batch as BatchIs, Applied, Known}
+use Rattle.frame_cut.specs.Frames.{frame}
+use Rattle.wire_talk.specs.Spellings.{reply_spelling}
+use Rattle.site_peers.specs.declared.deeds.Deed.{Deed}
+use Rattle.site_peers.specs.declared.deeds.Deed.TheVariants.{Stay, Call, Fail}
+use Rattle.site_peers.specs.declared.deeds.Failure.TheVariants.{Late, NotABatch}
+use Rattle.site_peers.specs.declared.moments.Moment.{Moment}
+use Rattle.site_peers.specs.declared.moments.Moment.TheVariants.{Away, Calling, Idle, Asked, Delivering}
+use Rattle.site_peers.specs.declared.peers.Peer.{Peer}
+use Rattle.site_peers.specs.Asking.{stat, delivery, items_of}
+use Rattle.site_peers.specs.Moves.{News, Time, Through, Came, Sent, Moves}
+use Rattle.site_peers.specs.Runs.{PeerTurn, Went, Exchange, exchanges}
+
+abbrev pub id_of : ℕ → List ℕ → Record
+id_of n key = record { id = record { site = 2; sequence = n }; parents = root ∷ []; writes = (key, Delete) ∷ [] }
+
+-- two states of site 2, and its promise
+abbrev pub batch : Batch
+batch = record {
+  records = id_of 1 (97 ∷ []) ∷ id_of 2 (98 ∷ []) ∷ [];
+  consents = record { site = 2; number = 1; floor = root; count = 2 } ∷ [];
+}
+
+-- of site 1 there are 3 states here, and none of site 2
+abbrev pub statistics : List ℕ
+statistics = reply_spelling (Statistics 3 3 1 0 (record { count = 3; floor = root; number = 0 } ∷ record { count = 0; floor = root; number = 0 } ∷ []))
+
+-- the frame that asks for what is above 3 and 0: Pull, 2 counts
+abbrev pub question : List ℕ
+question = 0 ∷ 0 ∷ 0 ∷ 10 ∷ 19 ∷ 2 ∷ 0 ∷ 0 ∷ 0 ∷ 3 ∷ 0 ∷ 0 ∷ 0 ∷ 0 ∷ []
+
+abbrev pub answer : List ℕ
+answer = frame (reply_spelling (BatchIs batch))
+
+abbrev pub applied : List ℕ
+applied = reply_spelling Applied
+
+abbrev pub turn : ℕ → News → List (List ℕ) → List (List ℕ) → Deed → PeerTurn
+turn now news bodies replies deed = record { now = now; news = news; bodies = bodies; replies = replies; deed = deed }
+
+abbrev pub peer : ℕ → Moment → Peer
+peer pause moment = record { every = 5000; pause = pause; moment = moment }
+
+-- An exchange, the newest turn first: the peer is called at 7, the call came through at 9, the question was written, the answer came, and its
+-- three items were delivered at 12, so that the next exchange is due at 5012.
+abbrev pub one_exchange : List PeerTurn
+one_exchange =
+    turn 12 Time (map delivery (items_of batch)) (applied ∷ applied ∷ applied ∷ []) Stay
+    ∷ turn 11 (Came answer) [] [] Stay
+    ∷ turn 9 (Sent question) [] [] Stay
+    ∷ turn 9 Through (stat ∷ []) (statistics ∷ []) Stay
+    ∷ turn 7 Time [] [] Call
+    ∷ []
+
+abbrev pub ExchangeIsMade : Type 0
+ExchangeIsMade = Went 5000 one_exchange (peer 1000 (Idle 12 5000))
+
+-- what there is of it
+abbrev pub ExchangeIsSeen : Type 0
+ExchangeIsSeen = exchanges one_exchange ≡ record {
+  statistics = statistics;
+  wrote = question;
+  came = answer;
+  asked = delivery (State (id_of 1 (97 ∷ []))) ∷ delivery (State (id_of 2 (98 ∷ []))) ∷ delivery (Promise (record { site = 2; number = 1; floor = root; count = 2 })) ∷ [];
+  failed = false;
+} ∷ []
+
+-- the peer was asked at 9, and all was written
+abbrev pub asked_at_9 : Peer
+asked_at_9 = peer 1000 (Asked 9 (record { left = []; came = [] }))
+
+-- An answer that is no batch: the exchange failed, which is told; the peer is left alone for 1 second, and after a further failure for 2.
+abbrev pub NoBatchIsTold : Type 0
+NoBatchIsTold = Moves asked_at_9 20 [] [] (Fail NotABatch true) (peer 2000 (Away 20 1000)) (Came (frame applied))
+
+-- 30 seconds less a millisecond are waited for an answer, and not 30; a failure behind another isn't told again
+abbrev pub WaitsAWhile : Type 0
+WaitsAWhile = Moves asked_at_9 30008 [] [] Stay asked_at_9 Time
+
+abbrev pub LateIsTold : Type 0
+LateIsTold = Moves asked_at_9 30009 [] [] (Fail Late true) (peer 2000 (Away 30009 1000)) Time
+
+abbrev pub LateAgainIsNotTold : Type 0
+LateAgainIsNotTold = Moves (peer 32000 (Calling 9)) 30009 [] [] (Fail Late false) (peer 60000 (Away 30009 32000)) Time
+
+-- the last item of a full batch is left, of which nothing was of use yet
+abbrev pub full_at_last : Peer
+full_at_last = peer 1000 (Delivering (State (id_of 1 (97 ∷ [])) ∷ []) true true false)
+
+-- where it is applied the next exchange follows at once, and where it was known it doesn't
+abbrev pub FullGoesOnAtOnce : Type 0
+FullGoesOnAtOnce = Moves full_at_last 12 (delivery (State (id_of 1 (97 ∷ []))) ∷ []) (applied ∷ []) Stay (peer 1000 (Idle 12 0)) Time
+
+abbrev pub FullOfNoUseWaits : Type 0
+FullOfNoUseWaits = Moves full_at_last 12 (delivery (State (id_of 1 (97 ∷ []))) ∷ []) (reply_spelling Known ∷ []) Stay (peer 1000 (Idle 12 5000)) Time

@@ -1,0 +1,72 @@
+//! What no clause says: that memory suffices for exchanges, and bytes from outside.
+
+ghost use Rattle.std.specs.Prelude.{◌≡◌, ◌==◌, ◌∷◌, [], ℕ, true, length, if◌then◌else◌};
+ghost use Rattle.std.specs.Prelude.{refl};
+
+use crate::{Deed, Failure, Peer};
+use rest_machine::InMemory;
+use std::alloc::Global;
+use tardis_base::{Machine, NoMemory, ReplyBuf};
+
+/// Replies to Stat that of the only site 3 states are known, and to everything else that it was applied.
+#[derive(Drop)]
+struct Replying {
+    asked: u64,
+}
+
+impl Machine for Replying {
+    ghost Plain = { Unit {0} };
+
+    ghost plain = { record {
+      step = λ s e. s;
+      reply = λ s e. if length e.1 == 1 then 14 ∷ 0 ∷ 0 ∷ 0 ∷ 0 ∷ 0 ∷ 0 ∷ 0 ∷ 3 ∷ 0 ∷ 0 ∷ 0 ∷ 3 ∷ 0 ∷ 0 ∷ 0 ∷ 1 ∷ 0 ∷ 0 ∷ 1 ∷ 0 ∷ 0 ∷ 0 ∷ 3 ∷ 0 ∷ 0 ∷ 0 ∷ 0 ∷ 0 ∷ 0 ∷ 0 ∷ 0 ∷ 0 ∷ 0 ∷ [] else 17 ∷ [];
+      is_sure = λ e. true;
+    } };
+
+    ghost stands = { λ m s. Unit {0} };
+
+    ghost opening = { λ m. tt };
+
+    fn act(&mut self, actor: u16, request: &[u8], out: &mut ReplyBuf) -> Result<(), NoMemory> {
+        let _ = actor;
+        self.asked = self.asked.wrapping_add(1);
+        out.clear();
+        if request.len() == 1 {
+            out.push(&STATISTICS);
+        } else {
+            out.push(&[17]);
+        }
+        Ok(())
+    }
+}
+
+const STATISTICS: [u8; 34] = [
+    14, 0, 0, 0, 0, 0, 0, 0, 3, 0, 0, 0, 3, 0, 0, 0, 1, 0, 0, 1, 0, 0, 0, 3, 0, 0, 0, 0, 0, 0, 0,
+    0, 0, 0,
+];
+
+/// A batch of two records, which delete a key each, and of one consent; in its frame.
+const BATCH: [u8; 58] = [
+    0, 0, 0, 54, 16, 0, 2, 0, 2, 0, 0, 0, 1, 1, 0, 0, 0, 0, 0, 0, 1, 1, 97, 0, 0, 2, 0, 0, 0, 2, 1,
+    0, 2, 0, 0, 0, 1, 1, 1, 98, 0, 1, 0, 2, 0, 0, 0, 1, 0, 0, 0, 0, 0, 0, 0, 0, 0, 2,
+];
+
+#[test]
+fn exchanges_are_made(rt: HostRuntime) {
+    let alloc = rt.alloc();
+    let mut machine = InMemory {
+        machine: Replying { asked: 0 },
+    };
+    let mut reply = ReplyBuf::new(alloc).expect(&rt, "memory");
+    let mut peer = Peer::new(5);
+    assert!(rt; peer.tick(alloc, &mut machine, 7, &mut reply) == Deed::Call);
+    assert!(rt; peer.connected(alloc, &mut machine, 9, &mut reply) == Deed::Stay);
+    assert!(rt; peer.to_write() == [0, 0, 0, 6, 19, 1, 0, 0, 0, 3].as_slice());
+    assert!(rt; peer.sent(9, 10) == Deed::Stay);
+    assert!(rt; peer.receive(alloc, 10, &BATCH[..20]) == Deed::Stay);
+    assert!(rt; peer.receive(alloc, 11, &BATCH[20..]) == Deed::Stay);
+    assert!(rt; peer.rests_for(11) == 0);
+    assert!(rt; peer.tick(alloc, &mut machine, 12, &mut reply) == Deed::Stay);
+    assert!(rt; machine.machine.asked == 4);
+    assert!(rt; peer.rests_for(13) == 4_999);
+}
