@@ -313,6 +313,32 @@ class Words(unittest.TestCase):
         self.assertEqual(known, 1001)
         self.assertLess(kept, 130)
 
+    def test_commits_that_come_at_once_are_not_ahead_of_the_collection(self):
+        server = Server(self.address, ("--tidy",))
+        self.addCleanup(server.end)
+        with server.connect() as connection:
+            ask(connection, OPEN_FOLLOWING, *[BEGIN, put(b"x", b"1"), COMMIT] * 1500)
+            (stat,) = ask(connection, STAT)
+        known, kept = struct.unpack(">QI", stat[1:13])
+        self.assertEqual(known, 1501)
+        self.assertLess(kept, 130)
+
+    def test_what_an_idle_session_held_goes_in_slices(self):
+        server = Server(self.address, ("--tidy",))
+        self.addCleanup(server.end)
+        with server.connect() as worker:
+            with server.connect() as idle:
+                ask(idle, OPEN)
+                ask(worker, OPEN_FOLLOWING, *[BEGIN, put(b"x", b"1"), COMMIT] * 600)
+                (stat,) = ask(worker, STAT)
+                self.assertEqual(struct.unpack(">QI", stat[1:13]), (601, 601))
+            for _ in range(2):  # the server may see the idle one go behind the first
+                ask(worker, *[BEGIN, put(b"x", b"2"), COMMIT] * 64)
+            kept = [struct.unpack(">QI", ask(worker, STAT)[0][1:13])[1] for _ in range(20)]
+        self.assertLess(kept[-1], 130)
+        # not all at once: each request finds a few slices less at most
+        self.assertLessEqual(max(more - less for more, less in zip(kept, kept[1:])), 64 * 4)
+
     def test_a_server_that_does_not_collect_keeps_all(self):
         self.assertEqual(self.kept_after(1000, ()), (1001, 1001))
 
