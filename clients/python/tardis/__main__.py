@@ -11,7 +11,7 @@ from typing import Any, Callable, Dict, Iterator, List, Optional
 
 from . import __version__
 from .blocking import Site, Transaction, connect
-from .exports import put_in_place, write_export
+from .exports import put_entries, put_in_place, read_export, write_export
 from .histories import State
 from .ids import StateId
 from .merging import Merged
@@ -194,6 +194,16 @@ def export(site: Site, words: Words) -> None:
             shutil.copyfileobj(whole, sys.stdout.buffer)
 
 
+def load(site: Site, words: Words) -> None:
+    # the whole file is read, and known to be an export, before anything is put
+    with open(words.file, "rb") as file:
+        entries = read_export(file)
+    site.open(follow=True)
+    made = put_entries(site, entries)
+    count = f"{len(entries)} {'key' if len(entries) == 1 else 'keys'}"
+    print(f"{count} put, from {made[0]} to {made[-1]}" if made else f"{count} put: there are none in the export")
+
+
 def the_leaf(site: Site) -> StateId:
     """The one leaf that there is."""
     leaves = site.leaves()
@@ -307,6 +317,7 @@ def parser() -> argparse.ArgumentParser:
     exported = command("export", export, "writes the keys and values of a state, as `tardis import` reads them", False)
     exported.add_argument("--at", metavar="STATE", help="of this state; else of the one leaf")
     exported.add_argument("--out", metavar="FILE", help="to this file, whole or not at all; else to standard output")
+    command("import", load, "puts the keys and values of an export", False).add_argument("file", metavar="FILE")
     watched = command("watch", watch, "tells each state that comes from now on")
     watched.add_argument("--every", type=float, default=0.5, metavar="SECONDS")
     page = command("web", web, "serves a page at http://127.0.0.1:PORT/ that shows the site live", False)

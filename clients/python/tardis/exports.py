@@ -1,15 +1,20 @@
-"""An export of a running site: the contents of one state, in the format of `docs/EXPORT.md`."""
+"""An export of a running site, and what is put into one: the contents of one state, in the format of `docs/EXPORT.md`."""
 
 import contextlib
 import os
 import shutil
 import struct
-from typing import IO
+from itertools import islice
+from typing import IO, Iterable, List, Tuple
 
 from .blocking import Site
+from .ids import StateId
 from .requests import At
 
-__all__ = ["put_in_place", "write_export"]
+__all__ = ["put_in_place", "put_entries", "read_export", "write_export"]
+
+#: so many keys may one transaction write
+MOST_WRITES = 64
 
 
 def write_export(site: Site, state: At, file: IO[bytes]) -> int:
@@ -27,6 +32,42 @@ def write_export(site: Site, state: At, file: IO[bytes]) -> int:
     file.write(struct.pack(">Q", count))
     file.seek(end)
     return count
+
+
+def read_export(file: IO[bytes]) -> List[Tuple[bytes, bytes]]:
+    """The keys and values of an export, which is read to its end. Anything else is a `ValueError`."""
+    def taken(size: int) -> bytes:
+        found = file.read(size)
+        if len(found) != size:
+            raise ValueError("no export: it ends too early")
+        return found
+
+    entries: List[Tuple[bytes, bytes]] = []
+    last = b""
+    for _ in range(struct.unpack(">Q", taken(8))[0]):
+        key = taken(taken(1)[0])
+        value = taken(struct.unpack(">H", taken(2))[0])
+        if not last < key or len(key) > 128 or len(value) > 4096:
+            raise ValueError("no export: its keys don't ascend, or one of them or a value is too long")
+        entries.append((key, value))
+        last = key
+    if file.read(1):
+        raise ValueError("no export: something stands behind its end")
+    return entries
+
+
+def put_entries(site: Site, entries: Iterable[Tuple[bytes, bytes]]) -> List[StateId]:
+    """Puts keys and values by the open session, up to 64 a transaction, each below the one before, and tells the states that were
+    made. Where one isn't made, those before it are there."""
+    made: List[StateId] = []
+    left = iter(entries)
+    while group := list(islice(left, MOST_WRITES)):
+        with site.transaction() as txn:
+            for key, value in group:
+                txn.put(key, value)
+        if txn.committed is not None:
+            made.append(txn.committed)
+    return made
 
 
 def put_in_place(whole: IO[bytes], path: str) -> None:

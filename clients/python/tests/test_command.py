@@ -121,6 +121,27 @@ class Command(OverServers):
         self.assertRegex(told[1], r"^session \d+: ceiling 0.0, last commit 1.4 \(holds the floor\)$")
         self.assertIs(json.loads(self.run_it("sessions", self.address, "--json"))["sessions"][0]["holds"], True)
 
+    def test_importing(self):
+        self.serve()
+        entries = [(b"k%03d" % number, b"v" * (number % 3)) for number in range(130)]
+        spelled = (130).to_bytes(8, "big") + b"".join(bytes([len(key)]) + key + len(value).to_bytes(2, "big") + value for key, value in entries)
+        path = os.path.join(self.folder, "in")
+        # 64 keys a transaction, each below the one before
+        for written, told in [(spelled, "130 keys put, from 1.1 to 1.3\n"), (bytes(8), "0 keys put: there are none in the export\n")]:
+            with open(path, "wb") as file:
+                file.write(written)
+            self.assertEqual(self.run_it("import", self.address, path), told)
+        self.assertEqual(list(self.connect().scan("1.3")), entries)
+        # of what is no export nothing is put
+        descending = bytes(7) + b"\2" + b"\1b\0\0" + b"\1a\0\0"
+        for written, told in [(spelled[:-1], "it ends too early"), (spelled + b"\0", "something stands behind its end"),
+                              (descending, "its keys don't ascend, or one of them or a value is too long")]:
+            with open(path, "wb") as file:
+                file.write(written)
+            self.assertEqual(self.run_it("import", self.address, path, status=1), "")
+            self.assertEqual(self.errors, f"tardis: no export: {told}\n")
+        self.assertEqual(self.connect().leaves().first, (tardis.StateId(1, 3),))
+
     def test_what_is_wrong_is_told_in_a_line(self):
         self.serve()
         for words, told in [
