@@ -2,6 +2,8 @@
 pub mod Settlings
 pub mod Upkeeps
 pub mod Answering
+pub mod Peers
+pub mod Noting
 pub mod Connections
 pub mod Telling
 pub mod Talks

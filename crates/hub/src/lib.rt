@@ -3,10 +3,14 @@
 
 mod answers;
 mod connections;
+mod fetching;
 mod laws;
 mod memory;
+mod noting;
 mod ports;
 mod serves;
+#[cfg(test)]
+mod tests;
 mod turns;
 mod upkeeps;
 mod waitings;
@@ -16,7 +20,7 @@ pub use laws::{
     one_trail, one_trail_as_seen, one_trail_behind_doors, one_trail_behind_doors_as_seen,
 };
 pub use memory::{MemoryPorts, Move};
-pub use ports::{Ports, Ready, Seen};
+pub use ports::{Fetches, PeerNews, Ports, Ready, Seen};
 pub use serves::{End, serve};
 pub use turns::SLOTS;
 pub use upkeeps::Upkeep;
