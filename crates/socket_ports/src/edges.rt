@@ -80,7 +80,7 @@ pub struct SocketPorts<'a, R, W> {
     watch: W,
 }
 
-impl<'a, R: Net + Clock, W: Watch> SocketPorts<'a, R, W> {
+impl<'a, R: Net + Clock, W: Watch + Drop> SocketPorts<'a, R, W> {
     /// The connections that will come through these doors, and those to peers at these addresses. A connection that asked
     /// nothing for so many seconds is ended.
     pub fn new(
@@ -490,7 +490,7 @@ fn waiting_for(connections: &[Option<Connection>], slot: usize) -> usize {
     }
 }
 
-impl<R: Net + Clock, W: Watch> Ports for SocketPorts<'_, R, W> {
+impl<R: Net + Clock, W: Watch + Drop> Ports for SocketPorts<'_, R, W> {
     ghost seen = { λ p. None };
 
     fn ready(&mut self, connections: &[Option<Connection>], peers: &[Peer]) -> Ready {

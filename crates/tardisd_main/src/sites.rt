@@ -8,7 +8,7 @@ ghost use Rattle.command_words.specs.Places.{IsPlace};
 ghost use Rattle.tardisd_main.specs.Sites.{upkeep_rule, ServesPlace};
 
 use command_words::Place;
-use hub::{End, Ports, Upkeep, serve};
+use hub::{End, Fetches, Ports, Upkeep, serve};
 use rest_machine::Settling;
 use session_core::SiteCore;
 use site_doors::AskedSite;
@@ -37,8 +37,10 @@ const FULL: [u8; 5] = [reply_codes::TIDIED, 0, 0, 0, 64];
 pub fn serve_place<P: Ports>(
     alloc: Global,
     keys: RandomState,
+    life: [u8; 16],
     place: Place,
     tidy: bool,
+    fetches: Fetches,
     ports: &mut P,
 ) -> Result<End, NoMemory>
     requires place { IsPlace place }
@@ -47,7 +49,7 @@ pub fn serve_place<P: Ports>(
     ensures nothing { OnErr result (ports.new ≡ ports.old) }
 {
     match SiteCore::new(alloc, keys, place.limits(), place.site) {
-        Ok(site) => serve_machine(alloc, AskedSite { alloc, site }, tidy, ports),
+        Ok(site) => serve_machine(alloc, AskedSite { alloc, site }, tidy, fetches, ports),
         Err(NoMemory) => Err(NoMemory),
     }
 }
@@ -58,6 +60,7 @@ fn serve_machine<M: Settling, P: Ports>(
     alloc: Global,
     machine: M,
     tidy: bool,
+    fetches: Fetches,
     ports: &mut P,
 ) -> Result<End, NoMemory>
     requires sure { (n : ℕ) → n < 256 → M.plain.is_sure (n + 1, close) ≡ true }
@@ -68,7 +71,7 @@ fn serve_machine<M: Settling, P: Ports>(
     ensures nothing { OnErr result (ports.new ≡ ports.old) }
 {
     let mut machine = machine;
-    serve(alloc, &mut machine, ports, upkeep_of(tidy))
+    serve(alloc, &mut machine, ports, upkeep_of(tidy), fetches)
 }
 
 /// The upkeep of a site, with `tidy`.
