@@ -1,0 +1,74 @@
+-- Which lives a site knows, and how it meets another site.
+use Rattle.std.specs.Prelude.{ℕ, ◌-◌, Bool, false, ◌==◌, ◌||◌, not, bytes_eq, List, [], ◌∷◌, replicate, get_or, set, Option, Some, None, is_none, if◌then◌else◌}
+use Rattle.std.specs.Option.{option_map_or}
+use Rattle.tardis_base.specs.Sizes.{most_sites}
+use Rattle.wire_lives.specs.declared.life_codes.TheConstants.{MEET, BEGIN_LIFE, MET, ANOTHER_LIFE, OWN_NUMBER, OTHER_SITES, NO_INTRODUCTION, NO_LIFE}
+use Rattle.wire_lives.specs.declared.introductions.Introduction.{Introduction}
+use Rattle.wire_lives.specs.Readings.{introduction_of, life_in}
+
+-- a life: the 16 bytes that were drawn when a site's history began
+abbrev pub Life : Type 0
+Life = List ℕ
+
+-- the life of each site of which one is known, the own one's among them; sites are numbered from 1
+abbrev pub Lives : Type 0
+Lives = List (Option Life)
+
+-- none is known
+abbrev pub no_lives : Lives
+no_lives = replicate most_sites None
+
+-- the life of a site
+abbrev pub life_of : Lives → ℕ → Option Life
+life_of lives number = get_or lives (number - 1) None
+
+-- the lives, with this one of a site
+abbrev pub with_life : ℕ → Life → Lives → Lives
+with_life number life lives = set lives (number - 1) (Some life)
+
+-- another life than this is known
+abbrev pub is_another : Option Life → Life → Bool
+is_another None life = false
+is_another (Some known) life = not (bytes_eq known life)
+
+-- ===== Meeting a site
+
+-- What the site with a number, of so many sites, makes of an introduction. It meets no site of more sites or of fewer, none
+-- that has its own number, and none that has another life than the site that it met by that number; and it meets none before
+-- its own life has begun.
+abbrev pub verdict : (own sites : ℕ) → Lives → Introduction → ℕ
+verdict own sites lives i =
+    if not (i.sites == sites) then OTHER_SITES else
+    if i.number == own then OWN_NUMBER else
+    if is_another (life_of lives i.number) i.life then ANOTHER_LIFE else
+    if is_none (life_of lives own) then NO_LIFE else MET
+
+-- the lives from then on, and what comes of it
+abbrev pub introduced : (own sites : ℕ) → Lives → Introduction → Lives × ℕ
+introduced own sites lives i =
+    let v = verdict own sites lives i in
+    (if v == MET then with_life i.number i.life lives else lives, v)
+
+abbrev pub meet : (own sites : ℕ) → Lives → List ℕ → Lives × ℕ
+meet own sites lives fields = option_map_or (introduced own sites lives) (introduction_of fields) (lives, NO_INTRODUCTION)
+
+-- the own life begins, where no other one has begun
+abbrev pub begun : (own : ℕ) → Lives → Life → Lives × ℕ
+begun own lives life = if is_another (life_of lives own) life then (lives, ANOTHER_LIFE) else (with_life own life lives, MET)
+
+abbrev pub begin_life : (own : ℕ) → Lives → List ℕ → Lives × ℕ
+begin_life own lives fields = option_map_or (begun own lives) (life_in fields) (lives, NO_LIFE)
+
+-- ===== Requests about lives
+
+-- to meet a site, or to begin a life
+abbrev pub is_of_lives : List ℕ → Bool
+is_of_lives [] = false
+is_of_lives (code ∷ fields) = code == MEET || code == BEGIN_LIFE
+
+-- the lives from then on, and the reply: the request's code and what comes of it
+abbrev pub lives_answer : (own sites : ℕ) → Lives → List ℕ → Lives × List ℕ
+lives_answer own sites lives [] = (lives, [])
+lives_answer own sites lives (code ∷ fields) =
+    let answer = if code == MEET then meet own sites lives fields else begin_life own lives fields in
+    (answer.0, code ∷ answer.1 ∷ [])
