@@ -9,7 +9,11 @@ use Rattle.std.proofs.lemmas.List.{get_or_past, get_or-set_same, get_or-set_othe
 use Rattle.std.proofs.lemmas.Slice.Eq.{bytes_eq-Decides}
 use Rattle.wire_lives.specs.declared.introductions.Introduction.{Introduction}
 use Rattle.wire_lives.specs.Readings.{introduction_of, life_in}
-use Rattle.site_lives.specs.Lives.{Life, Lives, life_of, with_life, is_another, verdict, introduced, meet, begun, begin_life, is_of_lives, lives_answer}
+use Rattle.site_lives.specs.declared.lives.NewLife.{NewLife}
+use Rattle.site_lives.specs.Lives.{Life, Lives, life_of, with_new, new_life, is_another, verdict, introduced, meet, begun, begin_life, lives_answer}
+
+abbrev pub of-it : ℕ → Life → NewLife
+of-it number life = record { number = number; life = life }
 
 -- what is known has a place
 pub is-within : (lives : Lives) (number : ℕ) (life : Life) → life_of lives number ≡ Some life → number - 1 < length lives
@@ -23,19 +27,18 @@ is-within lives number life e =
 pub is-this : (known life : Life) → IsFalse (is_another (Some known) life) → known ≡ life
 is-this known life f = (bytes_eq-Decides known life).0 (not-false (bytes_eq known life) f)
 
--- where no other life of a site is known, what is known stays when one is put there
-pub putting-keeps : (lives : Lives) (at : ℕ) (put : Life) (number : ℕ) (life : Life) → IsFalse (is_another (life_of lives at) put) →
-    life_of lives number ≡ Some life → life_of (with_life at put lives) number ≡ Some life
-putting-keeps lives at put number life same known =
-    elim (cases_Bool ((number - 1) == (at - 1))) [
+-- what is known stays when a life is put of which none was known
+pub putting-keeps : (lives : Lives) (at : ℕ) (put : Life) (number : ℕ) (life : Life) → life_of lives number ≡ Some life →
+    life_of (with_new (new_life lives at put) lives) number ≡ Some life
+putting-keeps lives at put number life known =
+    elim (cases_Bool (is_none (life_of lives at))) [
       | inl t ↦
-          let place = eqb-true (number - 1) (at - 1) t in
-          let there : life_of lives at ≡ Some life = ap (λ i. get_or lives i None) (sym place) ∙ known in
-          let is : life ≡ put = is-this life put (subst (λ o. IsFalse (is_another o put)) there same) in
-          ap (λ i. get_or (set lives (at - 1) (Some put)) i None) place
-          ∙ (get_or-set_same lives (at - 1) (Some put) None (is-within lives at life there) ∙ ap (λ l. Some l) (sym is))
+          let other : (number - 1 ≡ at - 1) → ⊥ = λ same.
+          both_ways (is_none (life_of lives at)) (ap (λ i. is_none (get_or lives i None)) (sym same) ∙ ap is_none known) t in
+          subst (λ (o : Option NewLife). life_of (with_new o lives) number ≡ Some life) (sym (cond-true (is_none (life_of lives at)) (Some (of-it at put)) None t))
+          (get_or-set_other lives (at - 1) (number - 1) (Some put) None other ∙ known)
       | inr f ↦
-          get_or-set_other lives (at - 1) (number - 1) (Some put) None (eqb-false (number - 1) (at - 1) f) ∙ known
+          subst (λ (o : Option NewLife). life_of (with_new o lives) number ≡ Some life) (sym (cond-false (is_none (life_of lives at)) (Some (of-it at put)) None f)) known
     ]
 
 -- ===== What a verdict says
@@ -60,49 +63,46 @@ is-met own sites lives i e =
 -- ===== One request
 
 module _ (lives : Lives) (number : ℕ) (life : Life) (known : life_of lives number ≡ Some life) where
-  introduced-keeps : (own sites : ℕ) (i : Introduction) → life_of (introduced own sites lives i).0 number ≡ Some life
+  abbrev Keeps : ℕ × Option NewLife → Type 0
+  Keeps answer = life_of (with_new answer.1 lives) number ≡ Some life
+
+  introduced-keeps : (own sites : ℕ) (i : Introduction) → Keeps (introduced own sites lives i)
   introduced-keeps own sites i =
+      let new = new_life lives i.number i.life in
       elim (cases_Bool (verdict own sites lives i == 0)) [
         | inl t ↦
-            subst (λ (l : Lives). life_of l number ≡ Some life) (sym (cond-true (verdict own sites lives i == 0) (with_life i.number i.life lives) lives t))
-            (putting-keeps lives i.number i.life number life (is-met own sites lives i (eqb-true (verdict own sites lives i) 0 t)).same known)
-        | inr f ↦
-            subst (λ (l : Lives). life_of l number ≡ Some life) (sym (cond-false (verdict own sites lives i == 0) (with_life i.number i.life lives) lives f)) known
+            subst (λ (o : Option NewLife). life_of (with_new o lives) number ≡ Some life) (sym (cond-true (verdict own sites lives i == 0) new None t))
+            (putting-keeps lives i.number i.life number life known)
+        | inr f ↦ subst (λ (o : Option NewLife). life_of (with_new o lives) number ≡ Some life) (sym (cond-false (verdict own sites lives i == 0) new None f)) known
       ]
 
-  meeting-keeps : (own sites : ℕ) (fields : List ℕ) → life_of (meet own sites lives fields).0 number ≡ Some life
+  meeting-keeps : (own sites : ℕ) (fields : List ℕ) → Keeps (meet own sites lives fields)
   meeting-keeps own sites fields = go (introduction_of fields)
     where
-      go : (o : Option Introduction) → life_of (option_map_or (introduced own sites lives) o (lives, 4)).0 number ≡ Some life
+      go : (o : Option Introduction) → Keeps (option_map_or (introduced own sites lives) o (4, None))
       go None = known
       go (Some i) = introduced-keeps own sites i
 
-  begun-keeps : (own : ℕ) (new : Life) → life_of (begun own lives new).0 number ≡ Some life
-  begun-keeps own new =
-      elim (cases_Bool (is_another (life_of lives own) new)) [
-        | inl t ↦
-            subst (λ (l : Lives × ℕ). life_of l.0 number ≡ Some life)
-            (sym (cond-true (is_another (life_of lives own) new) (lives, 1) (with_life own new lives, 0) t)) known
+  begun-keeps : (own : ℕ) (begins : Life) → Keeps (begun own lives begins)
+  begun-keeps own begins =
+      let new = new_life lives own begins in
+      elim (cases_Bool (is_another (life_of lives own) begins)) [
+        | inl t ↦ subst Keeps (sym (cond-true (is_another (life_of lives own) begins) (1, None) (0, new) t)) known
         | inr f ↦
-            subst (λ (l : Lives × ℕ). life_of l.0 number ≡ Some life)
-            (sym (cond-false (is_another (life_of lives own) new) (lives, 1) (with_life own new lives, 0) f)) (putting-keeps lives own new number life f known)
+            subst Keeps (sym (cond-false (is_another (life_of lives own) begins) (1, None) (0, new) f)) (putting-keeps lives own begins number life known)
       ]
 
-  beginning-keeps : (own : ℕ) (fields : List ℕ) → life_of (begin_life own lives fields).0 number ≡ Some life
+  beginning-keeps : (own : ℕ) (fields : List ℕ) → Keeps (begin_life own lives fields)
   beginning-keeps own fields = go (life_in fields)
     where
-      go : (o : Option Life) → life_of (option_map_or (begun own lives) o (lives, 5)).0 number ≡ Some life
+      go : (o : Option Life) → Keeps (option_map_or (begun own lives) o (5, None))
       go None = known
-      go (Some new) = begun-keeps own new
+      go (Some begins) = begun-keeps own begins
 
-  pub answer-keeps : (own sites : ℕ) (bytes : List ℕ) → life_of (lives_answer own sites lives bytes).0 number ≡ Some life
+  pub answer-keeps : (own sites : ℕ) (bytes : List ℕ) → life_of (with_new (lives_answer own sites lives bytes).1 lives) number ≡ Some life
   answer-keeps own sites [] = known
   answer-keeps own sites (code ∷ fields) =
       elim (cases_Bool (code == 72)) [
-        | inl t ↦
-            subst (λ (l : Lives × ℕ). life_of l.0 number ≡ Some life)
-            (sym (cond-true (code == 72) (meet own sites lives fields) (begin_life own lives fields) t)) (meeting-keeps own sites fields)
-        | inr f ↦
-            subst (λ (l : Lives × ℕ). life_of l.0 number ≡ Some life)
-            (sym (cond-false (code == 72) (meet own sites lives fields) (begin_life own lives fields) f)) (beginning-keeps own fields)
+        | inl t ↦ subst Keeps (sym (cond-true (code == 72) (meet own sites lives fields) (begin_life own lives fields) t)) (meeting-keeps own sites fields)
+        | inr f ↦ subst Keeps (sym (cond-false (code == 72) (meet own sites lives fields) (begin_life own lives fields) f)) (beginning-keeps own fields)
       ]

@@ -5,14 +5,14 @@ use Rattle.std.proofs.lemmas.Bool.{both_ways, cases_Bool, cond-true, cond-false,
 use Rattle.tardis_base.specs.Plain.{Event, PlainMachine, Answers}
 use Rattle.plain_site.specs.Site.{Site}
 use Rattle.site_lives.specs.Lives.{Life, Lives, life_of, is_of_lives}
-use Rattle.site_lives.specs.Acquainted.{Acquainted, about_lives, acquainted}
+use Rattle.site_lives.specs.Acquainted.{Acquainted, about_lives, with_news, acquainted}
 use Rattle.site_lives.specs.Laws.{EachHasItsOwn, others, replies_to_others, SiteHasItsTrail, LivesStay}
 use Rattle.site_lives.proofs.Stays.{answer-keeps}
 
 module _ (m : PlainMachine Site) where
   module _ (a : Acquainted) (e : Event) where
     abbrev of-lives : Acquainted
-    of-lives = record { site = a.site; lives = (about_lives a e.1).0 }
+    of-lives = with_news (about_lives a e.1).1 a
 
     abbrev of-site : Acquainted
     of-site = record { site = m.step a.site e; lives = a.lives }
@@ -24,7 +24,7 @@ module _ (m : PlainMachine Site) where
     step-site f = cond-false (is_of_lives e.1) of-lives of-site f
 
     pub reply-site : IsFalse (is_of_lives e.1) → (acquainted m).reply a e ≡ m.reply a.site e
-    reply-site f = cond-false (is_of_lives e.1) (about_lives a e.1).1 (m.reply a.site e) f
+    reply-site f = cond-false (is_of_lives e.1) (about_lives a e.1).0 (m.reply a.site e) f
 
     step-keeps : (number : ℕ) (life : Life) → life_of a.lives number ≡ Some life → life_of ((acquainted m).step a e).lives number ≡ Some life
     step-keeps number life known =

@@ -1,10 +1,13 @@
 -- Which lives a site knows, and how it meets another site.
-use Rattle.std.specs.Prelude.{ℕ, ◌-◌, Bool, false, ◌==◌, ◌||◌, not, bytes_eq, List, [], ◌∷◌, replicate, get_or, set, Option, Some, None, is_none, if◌then◌else◌}
+use Rattle.std.specs.Prelude.{ℕ, ◌-◌, Bool, false, ◌==◌, ◌||◌, ◌&&◌, not, bytes_eq, List, [], ◌∷◌, replicate, get_or, set, Option, Some, None, is_none, is_some, option_map, if◌then◌else◌}
+use Rattle.std.specs.List.{list_all}
 use Rattle.std.specs.Option.{option_map_or}
 use Rattle.tardis_base.specs.Sizes.{most_sites}
+use Rattle.tardis_base.specs.Valid.{is_within}
 use Rattle.wire_lives.specs.declared.life_codes.TheConstants.{MEET, BEGIN_LIFE, MET, ANOTHER_LIFE, OWN_NUMBER, OTHER_SITES, NO_INTRODUCTION, NO_LIFE}
 use Rattle.wire_lives.specs.declared.introductions.Introduction.{Introduction}
 use Rattle.wire_lives.specs.Readings.{introduction_of, life_in}
+use Rattle.site_lives.specs.declared.lives.NewLife.{NewLife}
 
 -- a life: the 16 bytes that were drawn when a site's history began
 abbrev pub Life : Type 0
@@ -43,21 +46,25 @@ verdict own sites lives i =
     if is_another (life_of lives i.number) i.life then ANOTHER_LIFE else
     if is_none (life_of lives own) then NO_LIFE else MET
 
--- the lives from then on, and what comes of it
-abbrev pub introduced : (own sites : ℕ) → Lives → Introduction → Lives × ℕ
+-- the life of a site, where none was known of it
+abbrev pub new_life : Lives → ℕ → Life → Option NewLife
+new_life lives number life = if is_none (life_of lives number) then Some (record { number = number; life = life }) else None
+
+-- what comes of an introduction, and the life that is known from then on and wasn't
+abbrev pub introduced : (own sites : ℕ) → Lives → Introduction → ℕ × Option NewLife
 introduced own sites lives i =
     let v = verdict own sites lives i in
-    (if v == MET then with_life i.number i.life lives else lives, v)
+    (v, if v == MET then new_life lives i.number i.life else None)
 
-abbrev pub meet : (own sites : ℕ) → Lives → List ℕ → Lives × ℕ
-meet own sites lives fields = option_map_or (introduced own sites lives) (introduction_of fields) (lives, NO_INTRODUCTION)
+abbrev pub meet : (own sites : ℕ) → Lives → List ℕ → ℕ × Option NewLife
+meet own sites lives fields = option_map_or (introduced own sites lives) (introduction_of fields) (NO_INTRODUCTION, None)
 
 -- the own life begins, where no other one has begun
-abbrev pub begun : (own : ℕ) → Lives → Life → Lives × ℕ
-begun own lives life = if is_another (life_of lives own) life then (lives, ANOTHER_LIFE) else (with_life own life lives, MET)
+abbrev pub begun : (own : ℕ) → Lives → Life → ℕ × Option NewLife
+begun own lives life = if is_another (life_of lives own) life then (ANOTHER_LIFE, None) else (MET, new_life lives own life)
 
-abbrev pub begin_life : (own : ℕ) → Lives → List ℕ → Lives × ℕ
-begin_life own lives fields = option_map_or (begun own lives) (life_in fields) (lives, NO_LIFE)
+abbrev pub begin_life : (own : ℕ) → Lives → List ℕ → ℕ × Option NewLife
+begin_life own lives fields = option_map_or (begun own lives) (life_in fields) (NO_LIFE, None)
 
 -- ===== Requests about lives
 
@@ -66,9 +73,27 @@ abbrev pub is_of_lives : List ℕ → Bool
 is_of_lives [] = false
 is_of_lives (code ∷ fields) = code == MEET || code == BEGIN_LIFE
 
--- the lives from then on, and the reply: the request's code and what comes of it
-abbrev pub lives_answer : (own sites : ℕ) → Lives → List ℕ → Lives × List ℕ
-lives_answer own sites lives [] = (lives, [])
+-- the reply, which is the request's code and what comes of it; and the life that is new
+abbrev pub lives_answer : (own sites : ℕ) → Lives → List ℕ → List ℕ × Option NewLife
+lives_answer own sites lives [] = ([], None)
 lives_answer own sites lives (code ∷ fields) =
     let answer = if code == MEET then meet own sites lives fields else begin_life own lives fields in
-    (answer.0, code ∷ answer.1 ∷ [])
+    (code ∷ answer.0 ∷ [], answer.1)
+
+-- the lives with what is new
+abbrev pub with_new : Option NewLife → Lives → Lives
+with_new None lives = lives
+with_new (Some new) lives = with_life new.number new.life lives
+
+-- how the site with this number, of so many, introduces itself, where its life has begun
+abbrev pub introduction : (own sites : ℕ) → Lives → Option Introduction
+introduction own sites lives = option_map (λ life. record { number = own; sites = sites; life = life }) (life_of lives own)
+
+-- ===== Lives that were kept
+
+-- A life that was new once may be taken back: it is that of one of so many sites, and none is known of that one; the own one came
+-- first of all, and each other one behind it.
+abbrev pub fits_life : (own sites : ℕ) → Lives → NewLife → Bool
+fits_life own sites lives new =
+    is_within 1 sites new.number && is_none (life_of lives new.number)
+    && (if new.number == own then list_all is_none lives else is_some (life_of lives own))

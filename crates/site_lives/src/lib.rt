@@ -8,5 +8,5 @@ mod lives;
 mod rows;
 
 pub use laws::{meetings_leave_the_site, one_life_is_met_of_each_site};
-pub use lives::{Lives, is_of_lives};
+pub use lives::{Lives, NewLife, is_of_lives};
 pub use rows::meetings_are_answered;

@@ -1,8 +1,9 @@
 //! The lives that a site knows, and what it answers to requests about them.
 
-ghost use Rattle.std.specs.Prelude.{◌≡◌, ◌-◌, IsTrue};
+ghost use Rattle.std.specs.Prelude.{◌≡◌, ◌-◌, is_none, IsTrue};
+ghost use Rattle.std.specs.List.{list_all};
 ghost use Rattle.wire_lives.specs.declared.introductions.Introduction.{Introduction};
-ghost use Rattle.site_lives.specs.Lives.{no_lives, life_of, with_life, is_another, is_of_lives, lives_answer, verdict, meet, begin_life};
+ghost use Rattle.site_lives.specs.Lives.{no_lives, life_of, with_life, with_new, new_life, is_another, is_of_lives, lives_answer, verdict, meet, begin_life, introduction, fits_life};
 
 use std::marker::Model;
 use tardis_base::{MAX_SITES, ReplyBuf};
@@ -13,6 +14,13 @@ use wire_lives::{Introduction, read_introduction, read_life};
 
 /// The most sites.
 const SITES: usize = MAX_SITES as usize;
+
+/// A life that wasn't known before, and the number of its site.
+#[derive(Clone, Copy)]
+pub struct NewLife {
+    pub number: u16,
+    pub life: [u8; 16],
+}
 
 /// The life of each site of which one is known, the own one's among them.
 #[derive(Drop)]
@@ -52,48 +60,60 @@ impl Lives {
         }
     }
 
-    /// From now on this is the life of the site with this number; of a number that no site can have none is kept.
-    pub fn put(&mut self, number: u16, life: [u8; 16])
-        ensures { self.new ≡ with_life number life self.old }
+    /// From now on this is known too; a life of a number that no site can have isn't kept.
+    pub fn put(&mut self, new: &NewLife)
+        ensures { self.new ≡ with_life new.now.number new.now.life self.old }
     {
-        let place = place_of(number);
+        let place = place_of(new.number);
         if place < SITES {
-            self.known[place] = Some(life);
+            self.known[place] = Some(new.life);
         }
     }
 
     /// Answers a request to meet a site or to begin a life, as the site with this number among so many, into `out`, whose bytes
-    /// from before are gone. It takes no memory.
-    pub fn answer(&mut self, own: u16, sites: u16, request: &[u8], out: &mut ReplyBuf)
+    /// from before are gone; and tells the life that is known from now on and wasn't, if there is one. It takes no memory.
+    pub fn answer(
+        &mut self,
+        own: u16,
+        sites: u16,
+        request: &[u8],
+        out: &mut ReplyBuf,
+    ) -> Option<NewLife>
         requires { IsTrue (is_of_lives request.now) }
-        ensures lives { self.new ≡ (lives_answer own sites self.old request.now).0 }
-        ensures reply { out.new ≡ (lives_answer own sites self.old request.now).1 }
+        ensures reply { out.new ≡ (lives_answer own sites self.old request.now).0 }
+        ensures new { result ≡ (lives_answer own sites self.old request.now).1 }
+        ensures lives { self.new ≡ with_new result self.old }
     {
         out.clear();
-        if let [code, fields @ ..] = request {
-            out.push_byte(*code);
-            out.push_byte(if *code == MEET {
-                self.meet(own, sites, fields)
-            } else {
-                self.begin(own, fields)
-            });
+        let (code, fields) = request.split_first()?;
+        let (verdict, new) = if *code == MEET {
+            self.meet(own, sites, fields)
+        } else {
+            self.begin(own, fields)
+        };
+        out.push_byte(*code);
+        out.push_byte(verdict);
+        if let Some(new) = &new {
+            self.put(new);
         }
+        new
     }
 
-    /// Meets the site of an introduction, where nothing speaks against it.
-    fn meet(&mut self, own: u16, sites: u16, fields: &[u8]) -> u8
-        ensures lives { self.new ≡ (meet own sites self.old fields.now).0 }
-        ensures verdict { result ≡ (meet own sites self.old fields.now).1 }
+    /// What comes of an introduction, and the life that is new.
+    fn meet(&self, own: u16, sites: u16, fields: &[u8]) -> (u8, Option<NewLife>)
+        ensures { result ≡ meet own sites self.now fields.now }
     {
         match read_introduction(fields) {
             Some(introduction) => {
                 let verdict = self.verdict(own, sites, &introduction);
-                if verdict == MET {
-                    self.put(introduction.number, introduction.life);
-                }
-                verdict
+                let new = if verdict == MET {
+                    self.new_life(introduction.number, introduction.life)
+                } else {
+                    None
+                };
+                (verdict, new)
             },
-            None => NO_INTRODUCTION,
+            None => (NO_INTRODUCTION, None),
         }
     }
 
@@ -114,22 +134,65 @@ impl Lives {
         }
     }
 
-    /// Begins the own life, where none has begun.
-    fn begin(&mut self, own: u16, fields: &[u8]) -> u8
-        ensures lives { self.new ≡ (begin_life own self.old fields.now).0 }
-        ensures verdict { result ≡ (begin_life own self.old fields.now).1 }
+    /// What comes of the bytes of an own life, and the life that is new.
+    fn begin(&self, own: u16, fields: &[u8]) -> (u8, Option<NewLife>)
+        ensures { result ≡ begin_life own self.now fields.now }
     {
         match read_life(fields) {
             Some(life) => {
                 if is_another(self.of(own), &life) {
-                    ANOTHER_LIFE
+                    (ANOTHER_LIFE, None)
                 } else {
-                    self.put(own, life);
-                    MET
+                    (MET, self.new_life(own, life))
                 }
             },
-            None => NO_LIFE,
+            None => (NO_LIFE, None),
         }
+    }
+
+    /// The life of a site, where none is known of it.
+    fn new_life(&self, number: u16, life: [u8; 16]) -> Option<NewLife>
+        ensures { result ≡ new_life self.now number life }
+    {
+        if self.of(number).is_none() {
+            Some(NewLife { number, life })
+        } else {
+            None
+        }
+    }
+
+    /// How the site with this number, of so many, introduces itself, where its life has begun.
+    pub fn introduction(&self, own: u16, sites: u16) -> Option<Introduction>
+        ensures { result ≡ introduction own sites self.now }
+    {
+        match self.of(own) {
+            Some(life) => Some(Introduction {
+                number: own,
+                sites,
+                life,
+            }),
+            None => None,
+        }
+    }
+
+    /// Whether a life that was new once may be taken back by the site with this number, of so many.
+    pub fn fits(&self, own: u16, sites: u16, new: &NewLife) -> bool
+        ensures { result ≡ fits_life own sites self.now new.now }
+    {
+        (1..=sites).contains(&new.number)
+            && self.of(new.number).is_none()
+            && if new.number == own {
+                self.are_unknown()
+            } else {
+                self.of(own).is_some()
+            }
+    }
+
+    /// Whether none is known.
+    fn are_unknown(&self) -> bool
+        ensures { result ≡ list_all is_none self.now }
+    {
+        self.known.iter().all(|life| life.is_none())
     }
 }
 

@@ -7,4 +7,4 @@ returns-else-place-lt-SITES c =
     let far = c.if-place-lt-SITES.false in
     let place = c.place_of-place.ensures in
     let room = sym (ap length c.self.view_is) ∙ c.self.invariant in
-    sym (set_past c.args.self.now (c.args.number - 1) (Some c.args.life) (omega (arith, far, place, room)))
+    sym (set_past c.args.self.now (c.args.new.now.number - 1) (Some c.args.new.now.life) (omega (arith, far, place, room)))
