@@ -1,0 +1,4 @@
+-- How lives stay.
+pub mod Stays
+pub mod Trails
+pub mod Once
