@@ -42,7 +42,7 @@ daemon_at found place = option_and_then (λ doors. option_and_then (daemon_with 
 abbrev pub daemon : List Setting → Option Daemon
 daemon found =
     if are_only (codes "--sites" ∷ codes "--site" ∷ codes "--listen" ∷ codes "--clients" ∷ codes "--peers" ∷ codes "--mode" ∷ codes "--idle"
-        ∷ codes "--peer" ∷ codes "--every" ∷ codes "--tidy" ∷ codes "--file" ∷ []) found
+    ∷ codes "--peer" ∷ codes "--every" ∷ codes "--tidy" ∷ codes "--file" ∷ []) found
     then option_and_then (daemon_at found) (place found) else None
 
 -- what a plan says, without its texts as values of the program

@@ -1,5 +1,5 @@
 -- What the words of a server say of its sockets.
-use Rattle.std.specs.Prelude.{ℕ, Bool, false, ◌&&◌, List, Option, None, Some, codes, length, filter, nat_eq, if◌then◌else◌}
+use Rattle.std.specs.Prelude.{ℕ, Bool, false, ◌&&◌, List, [], ◌∷◌, Option, None, Some, codes, length, filter, nat_eq, if◌then◌else◌}
 use Rattle.std.specs.List.{list_all, list_any, starts_with}
 use Rattle.std.specs.Str.Parse.{digits_value}
 use Rattle.tardis_base.specs.Bytes.{is_within}

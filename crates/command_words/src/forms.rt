@@ -32,7 +32,13 @@ fn read_needed(words: &[String], name: &str, least: u32, most: u32) -> Option<u3
 }
 
 /// The number of an option that may be left out.
-pub(crate) fn read_number_or(words: &[String], name: &str, default: u32, least: u32, most: u32) -> Option<u32>
+pub(crate) fn read_number_or(
+    words: &[String],
+    name: &str,
+    default: u32,
+    least: u32,
+    most: u32,
+) -> Option<u32>
     requires from { least ≤ default }
     requires to { default ≤ most }
     ensures number { result ≡ number_or default least most (values name.now (settings (map (λ w. string_bytes w) words.now))) }
