@@ -11,9 +11,8 @@ use mio::event::Event;
 use mio::net::{TcpStream, UnixStream};
 use mio::{Registry, Token};
 use site_peers::{Failure, Moment, Peer};
-use std::io;
-use std::mem;
 use std::net::{Net, ToSocketAddrs};
+use std::{io, mem};
 
 /// A peer's address, and what there is of a connection to it.
 #[derive(Drop)]
@@ -204,5 +203,8 @@ impl Line {
 
 /// Whether the peer's answer came.
 fn is_answered(peer: &Peer) -> bool {
-    matches!(&peer.moment, Moment::Idle { .. } | Moment::Delivering { .. })
+    matches!(
+        &peer.moment,
+        Moment::Idle { .. } | Moment::Delivering { .. }
+    )
 }

@@ -4,10 +4,9 @@ use crate::peers::PeersTold;
 use crate::words::{Faulty, Reading, Served};
 use command_words::{DaemonPlan, DoorPlan};
 use socket_ports::{Door, DoorFault, SocketPorts, open_door, path_of};
-use std::fs;
-use std::io;
 use std::net::SocketAddr;
 use std::time::Instant;
+use std::{fs, io};
 use tardisd_main::{Doors, FoundSite, GateFault, number_of};
 
 /// Doors over sockets of the system. That the site is served is told by a line on standard error, so that whoever started
@@ -62,11 +61,7 @@ impl<'a> SocketDoors<'a> {
     }
 
     /// The edge over doors that were opened.
-    fn ports_of(
-        &self,
-        opened: Vec<Door>,
-        plan: &DaemonPlan<'_>,
-    ) -> io::Result<RealPorts<'a>> {
+    fn ports_of(&self, opened: Vec<Door>, plan: &DaemonPlan<'_>) -> io::Result<RealPorts<'a>> {
         let mut peers = Vec::new(self.rt.alloc());
         for address in plan.peers.iter() {
             peers.push(String::from_str(self.rt.alloc(), address)?)?;

@@ -3,9 +3,7 @@
 use site_peers::{Failure, NO_VERDICT};
 use socket_ports::Watch;
 use std::{fmt, io};
-use wire_lives::life_codes::{
-    ANOTHER_LIFE, NO_INTRODUCTION, NO_LIFE, OTHER_SITES, OWN_NUMBER,
-};
+use wire_lives::life_codes::{ANOTHER_LIFE, NO_INTRODUCTION, NO_LIFE, OTHER_SITES, OWN_NUMBER};
 
 /// Tells of peers on standard error, in a line each time.
 #[derive(Drop)]

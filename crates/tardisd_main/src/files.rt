@@ -17,10 +17,10 @@ ghost use Rattle.tardisd_main.specs.Stores.{KeepsAs, GoesOn, ServedFrom, ServedO
 
 use crate::doors::{Doors, FoundSite, fetches_of};
 use crate::endings::{DaemonEnd, FileFault, ending_of};
-use crate::sites::upkeep_of;
+use crate::sites::serve_alive;
 use command_words::{DaemonPlan, Place};
 use disk_store::{BytewiseDisk, Store};
-use hub::{Fetches, Ports, serve};
+use hub::{Fetches, Ports};
 use log_groups::LogFront;
 use rest_site::RestSite;
 use site_doors::AskedLog;
@@ -107,7 +107,7 @@ fn serve_from<D: Doors, K: BytewiseDisk>(
         Ok(opened) => {
             let OpenedLog { log, found } = opened;
             let told = found_site(log.machine(), &found);
-            serve_log(alloc, log, told, plan, doors)
+            serve_log(alloc, log, told, life, plan, doors)
         }
         Err(refused) => {
             let NotOpened { end, disk } = refused;
@@ -121,6 +121,7 @@ fn serve_log<D: Doors, K: BytewiseDisk>(
     alloc: Global,
     log: Logged<RestSite, K>,
     found: FoundSite,
+    life: [u8; 16],
     plan: &DaemonPlan<'_>,
     doors: &mut D,
 ) -> (DaemonEnd, K)
@@ -130,7 +131,7 @@ fn serve_log<D: Doors, K: BytewiseDisk>(
     match doors.open(plan) {
         Ok(ports) => {
             doors.announce(plan, Some(found));
-            serve_ports(alloc, log, plan.tidy, fetches_of(plan), ports)
+            serve_ports(alloc, log, life, plan.tidy, fetches_of(plan), ports)
         }
         Err(fault) => (DaemonEnd::Gate(fault), log.close()),
     }
@@ -140,6 +141,7 @@ fn serve_log<D: Doors, K: BytewiseDisk>(
 fn serve_ports<P: Ports + Drop, K: BytewiseDisk>(
     alloc: Global,
     log: Logged<RestSite, K>,
+    life: [u8; 16],
     tidy: bool,
     fetches: Fetches,
     ports: P,
@@ -148,7 +150,7 @@ fn serve_ports<P: Ports + Drop, K: BytewiseDisk>(
         → ServedOver P.seen K.Disk tidy result.0 log.file.front bodies site result.1 ports }
 {
     let (mut asked, mut ports) = (AskedLog { alloc, log }, ports);
-    match serve(alloc, &mut asked, &mut ports, upkeep_of(tidy), fetches) {
+    match serve_alive(alloc, &mut asked, life, tidy, fetches, &mut ports) {
         Ok(end) => (ending_of(end), asked.log.close()),
         Err(NoMemory) => (DaemonEnd::NoMemory, asked.log.close()),
     }

@@ -138,7 +138,15 @@ fn open_and_serve<D: Doors>(
     match doors.open(plan) {
         Ok(mut ports) => {
             doors.announce(plan, None);
-            match serve_place(alloc, keys, life, plan.place, plan.tidy, fetches_of(plan), &mut ports) {
+            match serve_place(
+                alloc,
+                keys,
+                life,
+                plan.place,
+                plan.tidy,
+                fetches_of(plan),
+                &mut ports,
+            ) {
                 Ok(end) => ending_of(end),
                 Err(NoMemory) => DaemonEnd::NoMemory,
             }
