@@ -23,7 +23,7 @@ answers_append m s (e ∷ es) fs (y ∷ ys) zs t u p q =
 answers_append m s [] fs (y ∷ ys) zs t u p q = absurd p
 answers_append m s (e ∷ es) fs [] zs t u p q = absurd p
 
-answered_then : {S : Type 0} (m : PlainMachine S) (mid to : S → Type 0) (bodies more replies told : List (List ℕ)) (s : S) → Answered m mid bodies replies s →
+pub answered_then : {S : Type 0} (m : PlainMachine S) (mid to : S → Type 0) (bodies more replies told : List (List ℕ)) (s : S) → Answered m mid bodies replies s →
     AnswersFrom m mid to more told → Answered m to (bodies ++ more) (replies ++ told) s
 answered_then m mid to bodies more replies told s a from =
     let b = from a.state a.stands in
