@@ -16,9 +16,9 @@ use Rattle.site_peers.specs.declared.moments.Moment.{Moment}
 use Rattle.site_peers.specs.declared.moments.Moment.TheVariants.{Away, Calling, Greeting, Greeted, Idle, Asked, Delivering}
 use Rattle.site_peers.specs.declared.peers.Peer.{Peer}
 use Rattle.site_peers.specs.Questions.{QuestionState}
-use Rattle.site_peers.specs.Asking.{stat, delivery, items_of, AreStatistics, any_applied, meeting, verdict}
+use Rattle.site_peers.specs.Asking.{stat, delivery, AreStatistics, any_applied, meeting, verdict}
 use Rattle.site_peers.specs.Hearing.{StartsWith, IsHeard}
-use Rattle.site_peers.specs.Moves.{News, Time, Through, Over, Came, Sent, most_a_turn, with_left, HasFailed, Rests, Becomes, Breaks, Asks, MayAsk, GoesBy, Meets, MayGreet, Delivers, HearsOf, Uses, GreetsOf, Learns, WritesNone, Moves}
+use Rattle.site_peers.specs.Moves.{News, Time, Through, Over, Came, Sent, most_a_turn, with_left, Rests, Becomes, Breaks, Asks, MayAsk, GoesBy, Delivers, HearsOf, Uses, GreetsOf, Learns, WritesNone, Moves}
 use Rattle.site_peers.specs.Moves.{OnTime, OnThrough, OnOver, OnCame, OnBytes, OnSent}
 use Rattle.site_peers.specs.Times.{first_pause}
 use Rattle.site_peers.specs.Runs.{PeerTurn, Went, Exchange, wrote_in, came_in, is_failure, is_call, more_of, begun_by, told_of, begins, within, last_more, exchanges, IsQuestion, IsAnswered, IsOver, AreOver, IsAsking, IsDelivered, Fit}

@@ -18,15 +18,14 @@ use Rattle.wire_lives.specs.declared.life_codes.TheConstants.{MEET, MET}
 use Rattle.site_peers.specs.declared.introductions.TheConstants.{NO_VERDICT}
 use Rattle.tardis_base.specs.declared.records.Item.{Item}
 use Rattle.site_peers.specs.Questions.{QuestionState}
-use Rattle.site_peers.specs.Asking.{stat, greeting, meeting, met, verdict}
+use Rattle.site_peers.specs.Asking.{greeting, meeting, met, verdict}
 use Rattle.site_peers.specs.Hearing.{StartsWith}
 use Rattle.site_peers.specs.Introductions.{IsIntroduced}
 use Rattle.site_peers.specs.Times.{first_pause}
-use Rattle.site_peers.specs.Moves.{News, Time, Through, Over, Came, Sent, with_left, is_called, HasFailed, Rests, Becomes, Breaks, Asks, MayAsk, GoesBy, MayGreet, Delivers, HearsOf, Uses, GreetsOf, Learns, WritesNone, Moves}
+use Rattle.site_peers.specs.Moves.{News, Time, Through, Over, Came, Sent, with_left, is_called, HasFailed, Rests, Becomes, Breaks, Asks, MayAsk, GoesBy, HearsOf, Uses, GreetsOf, Learns, WritesNone, Moves}
 use Rattle.site_peers.specs.Moves.{OnTime, OnThrough, OnOver, OnCame, OnBytes, OnSent}
 use Rattle.site_peers.specs.Runs.{PeerTurn, Went, wrote_in, came_in, is_call}
-use Rattle.site_peers.specs.Connections.{since_call, is_through, came_through, came_since, wrote_since, asked_since, Met, IsMet, IsNotAsked}
-
+use Rattle.site_peers.specs.Connections.{since_call, is_through, came_through, came_since, wrote_since, asked_since, IsMet, IsNotAsked}
 
 -- a verdict that the peer is met is just one reply
 met_by : (reply : List ℕ) → verdict reply ≡ MET → reply ≡ met

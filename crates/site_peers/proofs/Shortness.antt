@@ -1,12 +1,10 @@
 -- How much a turn asks, and when it does nothing.
-use Rattle.std.proofs.Common.{◌≡◌, ◌∙◌, ℕ, ◌<◌, ◌≤◌, true, false, List, [], ◌∷◌, ◌++◌, length, map, take, inl, inr, ap, arith}
+use Rattle.std.proofs.Common.{◌≡◌, ℕ, ◌<◌, ◌≤◌, true, false, List, [], ◌∷◌, ◌++◌, length, take, inl, inr, ap, arith}
 use Rattle.std.proofs.lemmas.List.{length-map}
-use Rattle.tardis_base.specs.declared.records.Item.{Item}
 use Rattle.site_peers.specs.declared.deeds.Deed.{Deed}
 use Rattle.site_peers.specs.declared.moments.Moment.{Moment}
 use Rattle.site_peers.specs.declared.moments.Moment.TheVariants.{Away, Calling, Greeting, Greeted, Idle, Asked, Delivering}
 use Rattle.site_peers.specs.declared.peers.Peer.{Peer}
-use Rattle.site_peers.specs.Questions.{QuestionState}
 use Rattle.site_peers.specs.Asking.{delivery, meeting, verdict}
 use Rattle.site_peers.specs.Moves.{News, Time, Through, Over, Came, Sent, most_a_turn, Rests, MayAsk, GoesBy, HearsOf, GreetsOf, Learns, Moves, OnTime, OnThrough, OnOver, OnCame, OnBytes, OnSent, rest_of}
 use Rattle.site_peers.specs.Moves.{Uses}
@@ -14,7 +12,7 @@ use Rattle.site_peers.specs.declared.introductions.Introduced.{Introduced}
 use Rattle.site_peers.specs.declared.introductions.Introduced.TheVariants.{More as MoreOfIt, Answer as Introduces, Other as NoIntroduction}
 use Rattle.site_peers.specs.declared.hearing.Heard.{Heard}
 use Rattle.site_peers.specs.declared.hearing.Heard.TheVariants.{More, Answer, Other}
-use Rattle.site_peers.specs.Runs.{PeerTurn, TurnsAreShort, TimeSaysNothing}
+use Rattle.site_peers.specs.Runs.{TurnsAreShort, TimeSaysNothing}
 
 take_few : {X : Type 0} (n : ℕ) (xs : List X) → length (take n xs) ≤ n
 take_few ℕ.zero xs = omega arith

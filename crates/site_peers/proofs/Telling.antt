@@ -1,5 +1,5 @@
 -- Reading statistics, and what memory is wanting for.
-use Rattle.std.proofs.Common.{◌≡◌, ◌∙◌, ◌↔◌, ℕ, List, [], ◌∷◌, Bool, true, false, IsTrue, Option, Some, None, Result, Ok, Err, refl, sym, ap, subst, inl, inr, arith}
+use Rattle.std.proofs.Common.{◌≡◌, ◌∙◌, ◌↔◌, ℕ, List, [], ◌∷◌, IsTrue, Option, Some, None, Result, Err, refl, sym, ap, subst, inl, inr, arith}
 use Rattle.tardis_base.specs.declared.faults.ReadFault.{ReadFault}
 use Rattle.tardis_base.specs.declared.faults.ReadFault.TheVariants.{Malformed, NoMemory as OutOfMemory}
 use Rattle.tardis_base.specs.declared.replies.SiteLine.{SiteLine}

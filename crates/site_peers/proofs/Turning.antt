@@ -14,7 +14,7 @@ use Rattle.site_peers.specs.declared.moments.Moment.TheVariants.{Away, Calling, 
 use Rattle.site_peers.specs.declared.peers.Peer.{Peer}
 use Rattle.site_peers.specs.Questions.{QuestionState}
 use Rattle.site_peers.specs.Asking.{delivery, any_applied, meeting, verdict}
-use Rattle.site_peers.specs.Times.{patience, first_pause, has_passed}
+use Rattle.site_peers.specs.Times.{patience, has_passed}
 use Rattle.site_peers.specs.Moves.{News, Time, Through, most_a_turn, at, with_left, Rests, Becomes, HasFailed, Breaks, Once, MayAsk, GoesBy, MayGreet, Moves, OnTime, OnThrough, is_called}
 use Rattle.site_peers.specs.Turns.{AnswersFrom, Made, Turned}
 use Rattle.site_peers.proofs.Delivering.{answered_then}

@@ -4,7 +4,7 @@ use Rattle.std.proofs.lemmas.Bool.{leb-true}
 use Rattle.tardis_base.specs.Ids.{root}
 use Rattle.tardis_base.specs.Sizes.{longest_frame}
 use Rattle.tardis_base.specs.declared.records.Batch.{Batch}
-use Rattle.tardis_base.specs.declared.replies.Reply.TheVariants.{Stat as Statistics, Batch as BatchIs, Applied}
+use Rattle.tardis_base.specs.declared.replies.Reply.TheVariants.{Stat as Statistics, Batch as BatchIs}
 use Rattle.frame_cut.specs.Frames.{frame}
 use Rattle.wire_talk.specs.Spellings.{reply_spelling}
 use Rattle.wire_talk.specs.Spelled.{SpellsReply}
@@ -15,7 +15,7 @@ use Rattle.site_peers.specs.declared.deeds.Failure.TheVariants.{NotABatch, NotMe
 use Rattle.site_peers.specs.declared.moments.Moment.TheVariants.{Away, Calling, Greeting, Greeted, Asked, Delivering}
 use Rattle.site_peers.specs.Asking.{stat, items_of, AreStatistics}
 use Rattle.site_peers.proofs.Telling.{first_byte}
-use Rattle.site_peers.specs.Rows.{batch, introduction, statistics, question, hello, answer, applied, peer, ExchangeIsMade, ExchangeIsSeen, PeerIsMet, NotMetIsTold, GreetingLateIsTold, LongIntroductionIsTold}
+use Rattle.site_peers.specs.Rows.{batch, introduction, statistics, question, hello, applied, peer, ExchangeIsMade, ExchangeIsSeen, PeerIsMet, NotMetIsTold, GreetingLateIsTold, LongIntroductionIsTold}
 use Rattle.site_peers.specs.Rows.{NoBatchIsTold, WaitsAWhile, LateIsTold, LateAgainIsNotTold, FullGoesOnAtOnce, FullOfNoUseWaits}
 
 are_statistics : AreStatistics statistics (record { count = 3; floor = root; number = 0 } ∷ record { count = 0; floor = root; number = 0 } ∷ [])
@@ -62,17 +62,20 @@ exchange_is_made = (
           told = statistics ∷ [];
           asked = refl;
           replied = refl;
-          goes = inl (refl, inl (record {
-            reply = statistics;
-            asked = refl;
-            replied = refl;
-            way = inl (record {
-              lines = record { count = 3; floor = root; number = 0 } ∷ record { count = 0; floor = root; number = 0 } ∷ [];
-              counts = are_statistics;
-              deed_is = refl;
-              next = refl;
-            });
-          }));
+          goes = inl (
+            refl,
+            inl (record {
+              reply = statistics;
+              asked = refl;
+              replied = refl;
+              way = inl (record {
+                lines = record { count = 3; floor = root; number = 0 } ∷ record { count = 0; floor = root; number = 0 } ∷ [];
+                counts = are_statistics;
+                deed_is = refl;
+                next = refl;
+              });
+            }),
+          );
         },
       ),
       record { left = []; front = refl; becomes = record { none = (refl, refl); deed_is = refl; next = refl } },

@@ -1,13 +1,10 @@
 -- Worked turns of a peer with which an exchange is made every 5 seconds.
-use Rattle.std.specs.Prelude.{◌≡◌, ℕ, Bool, true, false, List, [], ◌∷◌, ◌++◌, map}
+use Rattle.std.specs.Prelude.{◌≡◌, ℕ, true, false, List, [], ◌∷◌, ◌++◌, map}
 use Rattle.tardis_base.specs.Ids.{root}
 use Rattle.tardis_base.specs.declared.records.Write.TheVariants.{Delete}
 use Rattle.tardis_base.specs.declared.records.Record.{Record}
-use Rattle.tardis_base.specs.declared.records.Consent.{Consent}
-use Rattle.tardis_base.specs.declared.records.Item.{Item}
 use Rattle.tardis_base.specs.declared.records.Item.TheVariants.{State, Promise}
 use Rattle.tardis_base.specs.declared.records.Batch.{Batch}
-use Rattle.tardis_base.specs.declared.replies.Reply.{Reply}
 use Rattle.tardis_base.specs.declared.replies.Reply.TheVariants.{Stat as Statistics, Batch as BatchIs, Applied, Known}
 use Rattle.frame_cut.specs.Frames.{frame}
 use Rattle.wire_lives.specs.declared.life_codes.TheConstants.{ANOTHER_LIFE, NO_INTRODUCTION}
@@ -20,7 +17,7 @@ use Rattle.site_peers.specs.declared.moments.Moment.TheVariants.{Away, Calling, 
 use Rattle.site_peers.specs.declared.peers.Peer.{Peer}
 use Rattle.site_peers.specs.Asking.{stat, delivery, items_of, meeting}
 use Rattle.site_peers.specs.Moves.{News, Time, Through, Came, Sent, Moves}
-use Rattle.site_peers.specs.Runs.{PeerTurn, Went, Exchange, exchanges}
+use Rattle.site_peers.specs.Runs.{PeerTurn, Went, exchanges}
 use Rattle.site_peers.specs.Connections.{since_call, IsMet}
 
 abbrev pub id_of : ℕ → List ℕ → Record

@@ -15,7 +15,7 @@ use Rattle.site_peers.specs.declared.peers.Peer.{Peer}
 use Rattle.site_peers.specs.Questions.{QuestionState}
 use Rattle.site_peers.specs.Asking.{by_nobody, stat, delivery, items_of, AreStatistics, pull_frame, meeting, met}
 use Rattle.site_peers.specs.Hearing.{StartsWith}
-use Rattle.site_peers.specs.Moves.{News, Time, Through, Over, Came, Sent, most_a_turn, fresh, Moves, Rests, rest_of}
+use Rattle.site_peers.specs.Moves.{News, Time, Came, Sent, most_a_turn, fresh, Moves, Rests, rest_of}
 
 -- what a turn was: what the edge told at this time, the requests of actor 0 and their replies, and what was asked of the edge
 pub record PeerTurn : Type 0 where

@@ -170,13 +170,7 @@ impl Peer {
     }
 
     /// Uses the bytes that came to the question for an introduction.
-    fn hear_introduction(
-        &mut self,
-        now: u64,
-        since: u64,
-        question: Question,
-        bytes: &[u8],
-    ) -> Deed
+    fn hear_introduction(&mut self, now: u64, since: u64, question: Question, bytes: &[u8]) -> Deed
         requires { length bytes.now ≤ piece }
         ensures { GreetsOf self.old now [] [] result self.new since question.left (question.came ++ bytes.now) }
     {
