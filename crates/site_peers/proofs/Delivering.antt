@@ -1,7 +1,6 @@
 -- Items that were delivered so far.
 use Rattle.std.proofs.Common.{◌≡◌, ◌∙◌, ℕ, ◌+◌, ◌-◌, ◌<◌, ◌≤◌, min, Bool, true, false, List, [], ◌∷◌, ◌++◌, length, map, take, drop, ◌⊎◌, inl, inr, slice_get, Some, refl, ap, sym, subst, arith}
 use Rattle.std.specs.Prelude.{◌||◌}
-use Rattle.std.specs.List.{list_any}
 use Rattle.std.proofs.lemmas.Bool.{cases_lt}
 use Rattle.std.proofs.lemmas.List.{map-append, take_all, length-drop}
 use Rattle.tardis_base.specs.declared.records.Item.{Item}
@@ -23,7 +22,7 @@ answers_append m s (e ∷ es) fs (y ∷ ys) zs t u p q =
 answers_append m s [] fs (y ∷ ys) zs t u p q = absurd p
 answers_append m s (e ∷ es) fs [] zs t u p q = absurd p
 
-answered_then : {S : Type 0} (m : PlainMachine S) (mid to : S → Type 0) (bodies more replies told : List (List ℕ)) (s : S) → Answered m mid bodies replies s →
+pub answered_then : {S : Type 0} (m : PlainMachine S) (mid to : S → Type 0) (bodies more replies told : List (List ℕ)) (s : S) → Answered m mid bodies replies s →
     AnswersFrom m mid to more told → Answered m to (bodies ++ more) (replies ++ told) s
 answered_then m mid to bodies more replies told s a from =
     let b = from a.state a.stands in

@@ -1,5 +1,5 @@
 -- Exchanges, turn by turn.
-use Rattle.std.proofs.Common.{◌≡◌, ◌∙◌, ℕ, ◌<◌, ◌≤◌, ◌-◌, Bool, true, false, List, [], ◌∷◌, ◌++◌, length, map, take, drop, ◌⊎◌, inl, inr, refl, ap, sym, subst, append_assoc}
+use Rattle.std.proofs.Common.{◌≡◌, ◌∙◌, ℕ, Bool, true, false, List, [], ◌∷◌, ◌++◌, map, take, drop, ◌⊎◌, inl, inr, refl, ap, sym, subst, append_assoc}
 use Rattle.std.specs.Prelude.{◌||◌, ◌==◌, if◌then◌else◌}
 use Rattle.std.proofs.lemmas.List.{append-nil, map-append, take-append-drop}
 use Rattle.tardis_base.specs.declared.records.Item.{Item}
@@ -7,27 +7,57 @@ use Rattle.frame_cut.specs.Frames.{frame}
 use Rattle.site_peers.specs.declared.deeds.Deed.{Deed}
 use Rattle.site_peers.specs.declared.deeds.Deed.TheVariants.{Stay, Call, Close, Fail}
 use Rattle.site_peers.specs.declared.deeds.Failure.{Failure}
-use Rattle.site_peers.specs.declared.deeds.Failure.TheVariants.{NotReached, Late, Cut, Unasked, NoCounts, NoMemory}
+use Rattle.site_peers.specs.declared.deeds.Failure.TheVariants.{NotReached, Late, Cut, NotMet, Unasked, NoCounts, NoMemory}
 use Rattle.site_peers.specs.declared.hearing.Heard.{Heard}
 use Rattle.site_peers.specs.declared.hearing.Heard.TheVariants.{More, Answer, Other}
+use Rattle.site_peers.specs.declared.introductions.Introduced.{Introduced}
+use Rattle.site_peers.specs.declared.introductions.Introduced.TheVariants.{More as MoreOfIt, Answer as Introduces, Other as NoIntroduction}
 use Rattle.site_peers.specs.declared.moments.Moment.{Moment}
-use Rattle.site_peers.specs.declared.moments.Moment.TheVariants.{Away, Calling, Idle, Asked, Delivering}
+use Rattle.site_peers.specs.declared.moments.Moment.TheVariants.{Away, Calling, Greeting, Greeted, Idle, Asked, Delivering}
 use Rattle.site_peers.specs.declared.peers.Peer.{Peer}
 use Rattle.site_peers.specs.Questions.{QuestionState}
-use Rattle.site_peers.specs.Asking.{delivery, items_of, AreStatistics, pull_frame, any_applied}
-use Rattle.site_peers.specs.Times.{first_pause}
+use Rattle.site_peers.specs.Asking.{stat, delivery, AreStatistics, any_applied, meeting, verdict}
 use Rattle.site_peers.specs.Hearing.{StartsWith, IsHeard}
-use Rattle.site_peers.specs.Moves.{News, Time, Through, Over, Came, Sent, most_a_turn, at, failed, with_left, alone, Rests, Becomes, HasFailed, Breaks, Asks, MayAsk, Delivers, Hears, HearsOf, Uses, Writes, WritesNone, Moves}
+use Rattle.site_peers.specs.Moves.{News, Time, Through, Over, Came, Sent, most_a_turn, with_left, Rests, Becomes, Breaks, Asks, MayAsk, GoesBy, Delivers, HearsOf, Uses, GreetsOf, Learns, WritesNone, Moves}
 use Rattle.site_peers.specs.Moves.{OnTime, OnThrough, OnOver, OnCame, OnBytes, OnSent}
-use Rattle.site_peers.specs.Runs.{PeerTurn, Went, Exchange, wrote_in, came_in, is_failure, more_of, begun_by, first_of, begins, last_more, exchanges, IsQuestion, IsAnswered, HadNoCounts, HadNoAnswer, HadAnswer, IsOver, AreOver, IsAsking, IsDelivered, Fit}
+use Rattle.site_peers.specs.Times.{first_pause}
+use Rattle.site_peers.specs.Runs.{PeerTurn, Went, Exchange, wrote_in, came_in, is_failure, is_call, more_of, begun_by, told_of, begins, within, last_more, exchanges, IsQuestion, IsAnswered, IsOver, AreOver, IsAsking, IsDelivered, Fit}
 
--- the exchanges after a turn more
-abbrev next : PeerTurn → List Exchange → List Exchange
-next t es = if begins t.bodies then begun_by t ∷ es else last_more t es
+-- whether an exchange goes on after a turn more, and the exchanges then
+abbrev goes_on : PeerTurn → Bool → Bool
+goes_on t on = if begins t.bodies then true else (if is_call t.deed then false else on)
 
--- a turn that asks nothing belongs to the last exchange
-same_exchange : (t : PeerTurn) (es : List Exchange) → t.bodies ≡ [] → next t es ≡ last_more t es
-same_exchange t es none = ap (λ bodies. if begins bodies then begun_by t ∷ es else last_more t es) none
+abbrev later : PeerTurn → Bool → List Exchange → List Exchange
+later t on es = if on then last_more t es else es
+
+abbrev next : PeerTurn → Bool → List Exchange → List Exchange
+next t on es = if begins t.bodies then begun_by t ∷ es else later t (goes_on t on) es
+
+-- what the peer stands at, with its exchanges, and whether one goes on
+abbrev Fits : Moment → Bool → List Exchange → Type 0
+Fits (Asked since question) false es = ⊥
+Fits (Asked since question) true [] = ⊥
+Fits (Asked since question) true (e ∷ es) = IsAsking e question × AreOver es
+Fits (Delivering items connected full useful) false es = ⊥
+Fits (Delivering items connected full useful) true [] = ⊥
+Fits (Delivering items connected full useful) true (e ∷ es) = IsDelivered e items × AreOver es
+Fits (Calling since) true es = ⊥
+Fits (Calling since) false es = AreOver es
+Fits (Greeting since question) true es = ⊥
+Fits (Greeting since question) false es = AreOver es
+Fits (Greeted answer) true es = ⊥
+Fits (Greeted answer) false es = AreOver es
+Fits (Away since wait) on es = AreOver es
+Fits (Idle since wait) on es = AreOver es
+
+-- a turn that asks nothing, and isn't a call, leaves it as it is whether an exchange goes on
+same_on : (t : PeerTurn) (on : Bool) → t.bodies ≡ [] → is_call t.deed ≡ false → goes_on t on ≡ on
+same_on t on none other =
+    ap (λ bodies. if begins bodies then true else (if is_call t.deed then false else on)) none ∙ ap (λ c. if c then false else on) other
+
+same_exchange : (t : PeerTurn) (on : Bool) (es : List Exchange) → t.bodies ≡ [] → is_call t.deed ≡ false → next t on es ≡ later t on es
+same_exchange t on es none other =
+    ap (λ bodies. if begins bodies then begun_by t ∷ es else later t (goes_on t on) es) none ∙ ap (λ c. later t c es) (same_on t on none other)
 
 still_failed : (a b : Bool) → a ≡ true → (a || b) ≡ true
 still_failed a b is = ap (λ x. x || b) is
@@ -129,26 +159,22 @@ module _ (t : PeerTurn) (e : Exchange) where
   }
 
 -- the exchanges that are over stay over
-all_over : (t : PeerTurn) (es : List Exchange) → t.bodies ≡ [] → wrote_in t.news ≡ [] → AreOver es → AreOver (last_more t es)
-all_over t [] none wrote o = tt
-all_over t (e ∷ es) none wrote o = (over_more t e none wrote o.0, o.1)
+all_over : (t : PeerTurn) (on : Bool) (es : List Exchange) → t.bodies ≡ [] → wrote_in t.news ≡ [] → AreOver es → AreOver (later t on es)
+all_over t false es none wrote o = o
+all_over t true [] none wrote o = tt
+all_over t true (e ∷ es) none wrote o = (over_more t e none wrote o.0, o.1)
 
 -- deliveries are no Stat
 begins_none : (items : List Item) → begins (map delivery items) ≡ false
 begins_none [] = refl
-begins_none (item ∷ items) = refl
+begins_none (item ∷ items) = begins_none items
 
 abbrev turn_of : (now : ℕ) → News → (bodies replies : List (List ℕ)) → Deed → PeerTurn
 turn_of now news bodies replies deed = record { now = now; news = news; bodies = bodies; replies = replies; deed = deed }
 
--- a turn that asks nothing, after which the peer stands at this moment
-settled : (t : PeerTurn) (q : Peer) (es : List Exchange) (moment : Moment) → t.bodies ≡ [] → q.moment ≡ moment → Fit moment (last_more t es) →
-    Fit q.moment (next t es)
-settled t q es moment none is fit = subst (λ m. Fit m (next t es)) (sym is) (subst (λ z. Fit moment z) (sym (same_exchange t es none)) fit)
-
 -- what is left of an answer, or that the exchange is over
 left_over : (p : Peer) (now : ℕ) (rest : List Item) (connected full useful : Bool) (e : Exchange) (es : List Exchange) → IsDelivered e rest → AreOver es →
-    Fit (with_left p now rest connected full useful).moment (e ∷ es)
+    Fits (with_left p now rest connected full useful).moment true (e ∷ es)
 left_over p now [] true full useful e es d over =
     (inr (inr (record { question = d.question; left = []; answered = d.answered; all = inl refl })), over)
 left_over p now [] false full useful e es d over =
@@ -159,30 +185,55 @@ module _ (p : Peer) (now : ℕ) (bodies replies : List (List ℕ)) (deed : Deed)
   abbrev t : PeerTurn
   t = turn_of now news bodies replies deed
 
-  rested : (moment : Moment) (es : List Exchange) → p.moment ≡ moment → Rests p now bodies replies deed q → Fit moment (last_more t es) → Fit q.moment (next t es)
-  rested moment es is r fit = settled t q es moment r.none.0 (ap (λ (x : Peer). x.moment) r.same ∙ is) fit
+  -- what is to be shown of a turn
+  abbrev Stays : Bool → List Exchange → Type 0
+  Stays on es = Fits q.moment (goes_on t on) (next t on es)
 
-  became : (d : Deed) (moment : Moment) (es : List Exchange) → Becomes p now bodies replies deed q d moment → Fit moment (last_more t es) →
-      Fit q.moment (next t es)
-  became d moment es b fit = settled t q es moment b.none.0 (ap (λ (x : Peer). x.moment) b.next) fit
+  -- a turn that asks nothing, after which the peer stands at this moment
+  settled : (on : Bool) (es : List Exchange) (moment : Moment) (d : Deed) → bodies ≡ [] → deed ≡ d → is_call d ≡ false → q.moment ≡ moment →
+      Fits moment on (later t on es) → Stays on es
+  settled on es moment d none is other stands fit =
+      let no_call : is_call deed ≡ false = ap is_call is ∙ other in
+      subst (λ m. Fits m (goes_on t on) (next t on es)) (sym stands)
+      (subst (λ b. Fits moment b (next t on es)) (sym (same_on t on none no_call))
+      (subst (λ z. Fits moment on z) (sym (same_exchange t on es none no_call)) fit))
 
-  broke : (why : Failure) (es : List Exchange) → Breaks p now bodies replies deed q why → AreOver (last_more t es) → Fit q.moment (next t es)
-  broke why es b over = settled t q es (Away now p.pause) b.none.0 (ap (λ (x : Peer). x.moment) b.failed.next) over
+  rested : (moment : Moment) (on : Bool) (es : List Exchange) → p.moment ≡ moment → Rests p now bodies replies deed q → Fits moment on (later t on es) →
+      Stays on es
+  rested moment on es is r fit = settled on es moment Stay r.none.0 r.deed_is refl (ap (λ (x : Peer). x.moment) r.same ∙ is) fit
+
+  became : (d : Deed) (moment : Moment) (on : Bool) (es : List Exchange) → is_call d ≡ false → Becomes p now bodies replies deed q d moment →
+      Fits moment on (later t on es) → Stays on es
+  became d moment on es other b fit = settled on es moment d b.none.0 b.deed_is other (ap (λ (x : Peer). x.moment) b.next) fit
+
+  broke : (why : Failure) (on : Bool) (es : List Exchange) → Breaks p now bodies replies deed q why → AreOver (later t on es) → Stays on es
+  broke why on es b over =
+      settled on es (Away now p.pause) (Fail why (p.pause == first_pause)) b.none.0 b.failed.deed_is refl (ap (λ (x : Peer). x.moment) b.failed.next) over
+
+  -- the peer is called
+  called : (on : Bool) (es : List Exchange) → AreOver es → Becomes p now bodies replies deed q Call (Calling now) → Stays on es
+  called on es over b =
+      let off : goes_on t on ≡ false =
+      ap (λ z. if begins z then true else (if is_call deed then false else on)) b.none.0 ∙ ap (λ d. if is_call d then false else on) b.deed_is in
+      let same : next t on es ≡ es =
+      ap (λ z. if begins z then begun_by t ∷ es else later t (goes_on t on) es) b.none.0 ∙ ap (λ c. later t c es) off in
+      subst (λ m. Fits m (goes_on t on) (next t on es)) (sym (ap (λ (x : Peer). x.moment) b.next))
+      (subst (λ c. Fits (Calling now) c (next t on es)) (sym off) (subst (λ z. AreOver z) (sym same) over))
 
   -- an exchange began, or couldn't
-  asked_now : (es : List Exchange) → AreOver es → (a : Asks p now bodies replies deed q) → Fit q.moment (begun_by t ∷ es)
-  asked_now es over a =
-      let told : first_of replies ≡ a.reply = ap first_of a.replied in
-      elim a.way as (λ _. Fit q.moment (begun_by t ∷ es)) [
-        | inl pulls ↦ subst (λ m. Fit m (begun_by t ∷ es)) (sym (ap (λ (x : Peer). x.moment) pulls.next)) (
+  began : (more told : List (List ℕ)) (es : List Exchange) → AreOver es → (a : Asks p now more told deed q) → told_of bodies replies ≡ a.reply →
+      Fits q.moment true (begun_by t ∷ es)
+  began more told es over a is =
+      elim a.way as (λ _. Fits q.moment true (begun_by t ∷ es)) [
+        | inl pulls ↦ subst (λ m. Fits m true (begun_by t ∷ es)) (sym (ap (λ (x : Peer). x.moment) pulls.next)) (
           record {
-            asks = record { lines = pulls.lines; counts = subst (λ z. AreStatistics z pulls.lines) (sym told) pulls.counts; wrote = refl };
+            asks = record { lines = pulls.lines; counts = subst (λ z. AreStatistics z pulls.lines) (sym is) pulls.counts; wrote = refl };
             came = refl;
             asked = refl;
           },
           over,
         )
-        | inr none ↦ subst (λ m. Fit m (begun_by t ∷ es)) (sym (ap (λ (x : Peer). x.moment) none.failed.next)) (
+        | inr none ↦ subst (λ m. Fits m true (begun_by t ∷ es)) (sym (ap (λ (x : Peer). x.moment) none.failed.next)) (
           inl (record {
             failed = failure deed NoCounts (p.pause == first_pause) none.failed.deed_is;
             wrote = refl;
@@ -192,86 +243,157 @@ module _ (p : Peer) (now : ℕ) (bodies replies : List (List ℕ)) (deed : Deed)
         )
       ]
 
-  may_ask : (es : List Exchange) → AreOver es → wrote_in news ≡ [] → MayAsk p now bodies replies deed q → Fit q.moment (next t es)
-  may_ask es over wrote (inl a) =
-      subst (λ z. Fit q.moment (if begins z then begun_by t ∷ es else last_more t es)) (sym a.asked) (asked_now es over a)
-  may_ask es over wrote (inr b) = broke NoMemory es b (all_over t es b.none.0 wrote over)
+  -- so it is where Stat is among the requests
+  begun : (on : Bool) (es : List Exchange) → begins bodies ≡ true → Fits q.moment true (begun_by t ∷ es) → Stays on es
+  begun on es stat_in fit =
+      let same : next t on es ≡ begun_by t ∷ es = ap (λ b. if b then begun_by t ∷ es else later t (goes_on t on) es) stat_in in
+      subst (λ c. Fits q.moment c (next t on es)) (sym (ap (λ b. if b then true else (if is_call deed then false else on)) stat_in))
+      (subst (λ z. Fits q.moment true z) (sym same) fit)
+
+  may_ask : (on : Bool) (es : List Exchange) → AreOver es → wrote_in news ≡ [] → MayAsk p now bodies replies deed q → Stays on es
+  may_ask on es over wrote (inl a) =
+      begun on es (ap begins a.asked)
+      (began bodies replies es over a (ap (λ z. told_of z replies) a.asked ∙ ap (λ z. told_of (stat ∷ []) z) a.replied))
+  may_ask on es over wrote (inr b) = broke NoMemory on es b (all_over t on es b.none.0 wrote over)
+
+  -- the site was asked to meet the peer, and nothing behind that
+  met_only : (introduction : List ℕ) (more told : List (List ℕ)) (why : Failure) (es : List Exchange) → AreOver es → bodies ≡ meeting introduction ∷ more →
+      Breaks p now more told deed q why → Stays false es
+  met_only introduction more told why es over asked b =
+      let only : bodies ≡ meeting introduction ∷ [] = asked ∙ ap (λ z. meeting introduction ∷ z) b.none.0 in
+      let off : goes_on t false ≡ false =
+      ap (λ z. if begins z then true else (if is_call deed then false else false)) only
+      ∙ ap (λ d. if is_call d then false else false) b.failed.deed_is in
+      let same : next t false es ≡ es =
+      ap (λ z. if begins z then begun_by t ∷ es else later t (goes_on t false) es) only ∙ ap (λ c. later t c es) off in
+      subst (λ m. Fits m (goes_on t false) (next t false es)) (sym (ap (λ (x : Peer). x.moment) b.failed.next))
+      (subst (λ z. AreOver z) (sym same) over)
+
+  went_by : (introduction reply : List ℕ) (more told : List (List ℕ)) (n : ℕ) (es : List Exchange) → AreOver es → bodies ≡ meeting introduction ∷ more →
+      replies ≡ reply ∷ told → GoesBy p now more told deed q n → Stays false es
+  went_by introduction reply more told n es over asked replied (inl (is, inl a)) =
+      let all : bodies ≡ meeting introduction ∷ stat ∷ [] = asked ∙ ap (λ z. meeting introduction ∷ z) a.asked in
+      begun false es (ap begins all)
+      (began more told es over a
+      (ap (λ z. told_of z replies) all ∙ ap (λ z. told_of (meeting introduction ∷ stat ∷ []) z) (replied ∙ ap (λ z. reply ∷ z) a.replied)))
+  went_by introduction reply more told n es over asked replied (inl (is, inr b)) = met_only introduction more told NoMemory es over asked b
+  went_by introduction reply more told n es over asked replied (inr (other, b)) = met_only introduction more told (NotMet n) es over asked b
 
   -- items were delivered
   delivered : (items : List Item) (connected full useful : Bool) (e : Exchange) (es : List Exchange) → wrote_in news ≡ [] → IsDelivered e items → AreOver es →
-      Delivers p now bodies replies deed q items connected full useful → Fit q.moment (next t (e ∷ es))
+      Delivers p now bodies replies deed q items connected full useful → Stays true (e ∷ es)
   delivered items connected full useful e es wrote d over m =
       let rest = drop most_a_turn items in
-      let same : next t (e ∷ es) ≡ more_of t e ∷ es =
-      ap (λ z. if begins z then begun_by t ∷ e ∷ es else more_of t e ∷ es) m.asked
-      ∙ ap (λ b. if b then begun_by t ∷ e ∷ es else more_of t e ∷ es) (begins_none (take most_a_turn items)) in
+      let none : begins bodies ≡ false = ap begins m.asked ∙ begins_none (take most_a_turn items) in
+      let on : goes_on t true ≡ true =
+      ap (λ b. if b then true else (if is_call deed then false else true)) none ∙ ap (λ x. if is_call x then false else true) m.deed_is in
+      let same : next t true (e ∷ es) ≡ more_of t e ∷ es =
+      ap (λ b. if b then begun_by t ∷ e ∷ es else later t (goes_on t true) (e ∷ es)) none ∙ ap (λ c. later t c (e ∷ es)) on in
       let more : IsDelivered (more_of t e) rest = record {
         question = question_more t e [] [] (ap (λ z. z ++ []) (sym wrote)) d.question;
         answered = answered_more t e items rest (take most_a_turn items) m.asked (sym (take-append-drop most_a_turn items)) d.answered;
       } in
-      subst (λ z. Fit q.moment z) (sym same)
-      (subst (λ (x : Peer). Fit x.moment (more_of t e ∷ es)) (sym m.next)
-      (left_over p now rest connected full (useful || any_applied replies) (more_of t e) es more over))
+      subst (λ c. Fits q.moment c (next t true (e ∷ es))) (sym on)
+      (subst (λ z. Fits q.moment true z) (sym same)
+      (subst (λ (x : Peer). Fits x.moment true (more_of t e ∷ es)) (sym m.next)
+      (left_over p now rest connected full (useful || any_applied replies) (more_of t e) es more over)))
 
   -- the time
-  on_time : (moment : Moment) (es : List Exchange) → p.moment ≡ moment → wrote_in news ≡ [] → came_in news ≡ [] → Fit moment es →
-      OnTime p now bodies replies deed q moment → Fit q.moment (next t es)
-  on_time (Away since wait) es is w c fit (inl m) = became Call (Calling now) es m.1 (all_over t es m.1.none.0 w fit)
-  on_time (Away since wait) es is w c fit (inr m) = rested (Away since wait) es is m.1 (all_over t es m.1.none.0 w fit)
-  on_time (Calling since) es is w c fit (inl m) = broke Late es m.1 (all_over t es m.1.none.0 w fit)
-  on_time (Calling since) es is w c fit (inr m) = rested (Calling since) es is m.1 (all_over t es m.1.none.0 w fit)
-  on_time (Idle since wait) es is w c fit (inl m) = may_ask es fit w m.1
-  on_time (Idle since wait) es is w c fit (inr m) = rested (Idle since wait) es is m.1 (all_over t es m.1.none.0 w fit)
-  on_time (Asked since question) [] is w c fit m = absurd fit
-  on_time (Asked since question) (e ∷ es) is w c fit (inl m) =
-      broke Late (e ∷ es) m.1 (asking_failed t e question Late (p.pause == first_pause) m.1.none.0 w m.1.failed.deed_is fit.0, fit.1)
-  on_time (Asked since question) (e ∷ es) is w c fit (inr m) =
-      rested (Asked since question) (e ∷ es) is m.1 (asking_same t e question m.1.none.0 w c fit.0, fit.1)
-  on_time (Delivering items connected full useful) [] is w c fit m = absurd fit
-  on_time (Delivering items connected full useful) (e ∷ es) is w c fit m = delivered items connected full useful e es w fit.0 fit.1 m
+  on_time : (moment : Moment) (on : Bool) (es : List Exchange) → p.moment ≡ moment → wrote_in news ≡ [] → came_in news ≡ [] → Fits moment on es →
+      OnTime p now bodies replies deed q moment → Stays on es
+  on_time (Away since wait) on es is w c fit (inl m) = called on es fit m.1
+  on_time (Away since wait) on es is w c fit (inr m) = rested (Away since wait) on es is m.1 (all_over t on es m.1.none.0 w fit)
+  on_time (Calling since) true es is w c fit m = absurd fit
+  on_time (Calling since) false es is w c fit (inl m) = broke Late false es m.1 fit
+  on_time (Calling since) false es is w c fit (inr m) = rested (Calling since) false es is m.1 fit
+  on_time (Greeting since question) true es is w c fit m = absurd fit
+  on_time (Greeting since question) false es is w c fit (inl m) = broke Late false es m.1 fit
+  on_time (Greeting since question) false es is w c fit (inr m) = rested (Greeting since question) false es is m.1 fit
+  on_time (Greeted answer) true es is w c fit m = absurd fit
+  on_time (Greeted answer) false es is w c fit m = went_by answer m.reply m.more m.told (verdict m.reply) es fit m.asked m.replied m.goes
+  on_time (Idle since wait) on es is w c fit (inl m) = may_ask on es fit w m.1
+  on_time (Idle since wait) on es is w c fit (inr m) = rested (Idle since wait) on es is m.1 (all_over t on es m.1.none.0 w fit)
+  on_time (Asked since question) false es is w c fit m = absurd fit
+  on_time (Asked since question) true [] is w c fit m = absurd fit
+  on_time (Asked since question) true (e ∷ es) is w c fit (inl m) =
+      broke Late true (e ∷ es) m.1 (asking_failed t e question Late (p.pause == first_pause) m.1.none.0 w m.1.failed.deed_is fit.0, fit.1)
+  on_time (Asked since question) true (e ∷ es) is w c fit (inr m) =
+      rested (Asked since question) true (e ∷ es) is m.1 (asking_same t e question m.1.none.0 w c fit.0, fit.1)
+  on_time (Delivering items connected full useful) false es is w c fit m = absurd fit
+  on_time (Delivering items connected full useful) true [] is w c fit m = absurd fit
+  on_time (Delivering items connected full useful) true (e ∷ es) is w c fit m = delivered items connected full useful e es w fit.0 fit.1 m
 
   -- nothing was done
-  on_rest : (moment : Moment) (es : List Exchange) → p.moment ≡ moment → wrote_in news ≡ [] → came_in news ≡ [] → Fit moment es →
-      Rests p now bodies replies deed q → Fit q.moment (next t es)
-  on_rest (Away since wait) es is w c fit r = rested (Away since wait) es is r (all_over t es r.none.0 w fit)
-  on_rest (Calling since) es is w c fit r = rested (Calling since) es is r (all_over t es r.none.0 w fit)
-  on_rest (Idle since wait) es is w c fit r = rested (Idle since wait) es is r (all_over t es r.none.0 w fit)
-  on_rest (Asked since question) [] is w c fit r = absurd fit
-  on_rest (Asked since question) (e ∷ es) is w c fit r =
-      rested (Asked since question) (e ∷ es) is r (asking_same t e question r.none.0 w c fit.0, fit.1)
-  on_rest (Delivering items connected full useful) [] is w c fit r = absurd fit
-  on_rest (Delivering items connected full useful) (e ∷ es) is w c fit r =
-      rested (Delivering items connected full useful) (e ∷ es) is r (delivered_same t e items r.none.0 w fit.0, fit.1)
+  on_rest : (moment : Moment) (on : Bool) (es : List Exchange) → p.moment ≡ moment → wrote_in news ≡ [] → came_in news ≡ [] → Fits moment on es →
+      Rests p now bodies replies deed q → Stays on es
+  on_rest (Away since wait) on es is w c fit r = rested (Away since wait) on es is r (all_over t on es r.none.0 w fit)
+  on_rest (Calling since) true es is w c fit r = absurd fit
+  on_rest (Calling since) false es is w c fit r = rested (Calling since) false es is r fit
+  on_rest (Greeting since question) true es is w c fit r = absurd fit
+  on_rest (Greeting since question) false es is w c fit r = rested (Greeting since question) false es is r fit
+  on_rest (Greeted answer) true es is w c fit r = absurd fit
+  on_rest (Greeted answer) false es is w c fit r = rested (Greeted answer) false es is r fit
+  on_rest (Idle since wait) on es is w c fit r = rested (Idle since wait) on es is r (all_over t on es r.none.0 w fit)
+  on_rest (Asked since question) false es is w c fit r = absurd fit
+  on_rest (Asked since question) true [] is w c fit r = absurd fit
+  on_rest (Asked since question) true (e ∷ es) is w c fit r =
+      rested (Asked since question) true (e ∷ es) is r (asking_same t e question r.none.0 w c fit.0, fit.1)
+  on_rest (Delivering items connected full useful) false es is w c fit r = absurd fit
+  on_rest (Delivering items connected full useful) true [] is w c fit r = absurd fit
+  on_rest (Delivering items connected full useful) true (e ∷ es) is w c fit r =
+      rested (Delivering items connected full useful) true (e ∷ es) is r (delivered_same t e items r.none.0 w fit.0, fit.1)
 
   -- the call came through
-  on_through : (moment : Moment) (es : List Exchange) → p.moment ≡ moment → wrote_in news ≡ [] → came_in news ≡ [] → Fit moment es →
-      OnThrough p now bodies replies deed q moment → Fit q.moment (next t es)
-  on_through (Calling since) es is w c fit m = may_ask es fit w m
-  on_through (Away since wait) es is w c fit m = on_rest (Away since wait) es is w c fit m
-  on_through (Idle since wait) es is w c fit m = on_rest (Idle since wait) es is w c fit m
-  on_through (Asked since question) es is w c fit m = on_rest (Asked since question) es is w c fit m
-  on_through (Delivering items connected full useful) es is w c fit m = on_rest (Delivering items connected full useful) es is w c fit m
+  on_through : (moment : Moment) (on : Bool) (es : List Exchange) → p.moment ≡ moment → wrote_in news ≡ [] → came_in news ≡ [] → Fits moment on es →
+      OnThrough p now bodies replies deed q moment → Stays on es
+  on_through (Calling since) true es is w c fit m = absurd fit
+  on_through (Calling since) false es is w c fit (inl m) = became Stay _ false es refl m fit
+  on_through (Calling since) false es is w c fit (inr m) = broke NoMemory false es m fit
+  on_through (Away since wait) on es is w c fit m = on_rest (Away since wait) on es is w c fit m
+  on_through (Greeting since question) on es is w c fit m = on_rest (Greeting since question) on es is w c fit m
+  on_through (Greeted answer) on es is w c fit m = on_rest (Greeted answer) on es is w c fit m
+  on_through (Idle since wait) on es is w c fit m = on_rest (Idle since wait) on es is w c fit m
+  on_through (Asked since question) on es is w c fit m = on_rest (Asked since question) on es is w c fit m
+  on_through (Delivering items connected full useful) on es is w c fit m = on_rest (Delivering items connected full useful) on es is w c fit m
 
   -- the connection is over
-  on_over : (moment : Moment) (es : List Exchange) → p.moment ≡ moment → wrote_in news ≡ [] → came_in news ≡ [] → Fit moment es →
-      OnOver p now bodies replies deed q moment → Fit q.moment (next t es)
-  on_over (Away since wait) es is w c fit m = on_rest (Away since wait) es is w c fit m
-  on_over (Calling since) es is w c fit m = broke NotReached es m (all_over t es m.none.0 w fit)
-  on_over (Idle since wait) es is w c fit m = became Close (Away since wait) es m (all_over t es m.none.0 w fit)
-  on_over (Asked since question) [] is w c fit m = absurd fit
-  on_over (Asked since question) (e ∷ es) is w c fit m =
-      broke Cut (e ∷ es) m (asking_failed t e question Cut (p.pause == first_pause) m.none.0 w m.failed.deed_is fit.0, fit.1)
-  on_over (Delivering items true full useful) [] is w c fit m = absurd fit
-  on_over (Delivering items true full useful) (e ∷ es) is w c fit m =
-      became Close (Delivering items false full useful) (e ∷ es) m (delivered_same t e items m.none.0 w fit.0, fit.1)
-  on_over (Delivering items false full useful) es is w c fit m = on_rest (Delivering items false full useful) es is w c fit m
+  on_over : (moment : Moment) (on : Bool) (es : List Exchange) → p.moment ≡ moment → wrote_in news ≡ [] → came_in news ≡ [] → Fits moment on es →
+      OnOver p now bodies replies deed q moment → Stays on es
+  on_over (Away since wait) on es is w c fit m = on_rest (Away since wait) on es is w c fit m
+  on_over (Calling since) true es is w c fit m = absurd fit
+  on_over (Calling since) false es is w c fit m = broke NotReached false es m fit
+  on_over (Greeting since question) true es is w c fit m = absurd fit
+  on_over (Greeting since question) false es is w c fit m = broke Cut false es m fit
+  on_over (Greeted answer) true es is w c fit m = absurd fit
+  on_over (Greeted answer) false es is w c fit m = broke Cut false es m fit
+  on_over (Idle since wait) on es is w c fit m = became Close (Away since wait) on es refl m (all_over t on es m.none.0 w fit)
+  on_over (Asked since question) false es is w c fit m = absurd fit
+  on_over (Asked since question) true [] is w c fit m = absurd fit
+  on_over (Asked since question) true (e ∷ es) is w c fit m =
+      broke Cut true (e ∷ es) m (asking_failed t e question Cut (p.pause == first_pause) m.none.0 w m.failed.deed_is fit.0, fit.1)
+  on_over (Delivering items true full useful) false es is w c fit m = absurd fit
+  on_over (Delivering items true full useful) true [] is w c fit m = absurd fit
+  on_over (Delivering items true full useful) true (e ∷ es) is w c fit m =
+      became Close (Delivering items false full useful) true (e ∷ es) refl m (delivered_same t e items m.none.0 w fit.0, fit.1)
+  on_over (Delivering items false full useful) on es is w c fit m = on_rest (Delivering items false full useful) on es is w c fit m
+
+  -- what came of an introduction was used
+  on_introduced : (since : ℕ) (es : List Exchange) → AreOver es → (introduced : Introduced) → Learns p now bodies replies deed q since introduced →
+      Stays false es
+  on_introduced since es over (MoreOfIt question) m = became Stay (Greeting since question) false es refl m over
+  on_introduced since es over (Introduces answer) m = became Stay (Greeted answer) false es refl m over
+  on_introduced since es over (NoIntroduction why) m = broke why false es m over
+
+  on_greeting : (since : ℕ) (left came : List ℕ) (es : List Exchange) → AreOver es → GreetsOf p now bodies replies deed q since left came → Stays false es
+  on_greeting since [] came es over m = on_introduced since es over m.introduced m.learns
+  on_greeting since (byte ∷ left) came es over m = broke Unasked false es m over
 
   -- what came was used
   on_heard : (since : ℕ) (came : List ℕ) (question : QuestionState) (e : Exchange) (es : List Exchange) → wrote_in news ≡ [] → came ≡ question.came ++ came_in news →
       question.left ≡ [] → IsAsking e question → AreOver es → (heard : Heard) → IsHeard [] came heard → Uses p now bodies replies deed q since heard →
-      Fit q.moment (next t (e ∷ es))
+      Stays true (e ∷ es)
   on_heard since came question e es w all sent a over (More more) heard m =
-      became Stay (Asked since more) (e ∷ es) m (
+      became Stay (Asked since more) true (e ∷ es) refl m (
         subst (λ x. IsAsking (more_of t e) x) (sym heard.1) (record {
           asks = question_more t e [] [] (ap (λ z. z ++ []) (sym w)) (subst (λ z. IsQuestion e z) sent a.asks);
           came = ap (λ z. z ++ came_in news) a.came ∙ sym all;
@@ -280,7 +402,7 @@ module _ (p : Peer) (now : ℕ) (bodies replies : List (List ℕ)) (deed : Deed)
         over,
       )
   on_heard since came question e es w all sent a over (Answer items full) (body, batch, starts, spelled, are, f) m =
-      became Stay (Delivering items true full false) (e ∷ es) m (
+      became Stay (Delivering items true full false) true (e ∷ es) refl m (
         record {
           question = question_more t e [] [] (ap (λ z. z ++ []) (sym w)) (subst (λ z. IsQuestion e z) sent a.asks);
           answered = record {
@@ -295,46 +417,58 @@ module _ (p : Peer) (now : ℕ) (bodies replies : List (List ℕ)) (deed : Deed)
         over,
       )
   on_heard since came question e es w all sent a over (Other why) heard m =
-      broke why (e ∷ es) m (asking_failed t e question why (p.pause == first_pause) m.none.0 w m.failed.deed_is a, over)
+      broke why true (e ∷ es) m (asking_failed t e question why (p.pause == first_pause) m.none.0 w m.failed.deed_is a, over)
 
   on_question : (since : ℕ) (left came : List ℕ) (question : QuestionState) (e : Exchange) (es : List Exchange) → wrote_in news ≡ [] →
       came ≡ question.came ++ came_in news → question.left ≡ left → IsAsking e question → AreOver es → HearsOf p now bodies replies deed q since left came →
-      Fit q.moment (next t (e ∷ es))
+      Stays true (e ∷ es)
   on_question since [] came question e es w all sent a over m = on_heard since came question e es w all sent a over m.heard m.is m.uses
   on_question since (byte ∷ left) came question e es w all sent a over m =
-      broke Unasked (e ∷ es) m (asking_failed t e question Unasked (p.pause == first_pause) m.none.0 w m.failed.deed_is a, over)
+      broke Unasked true (e ∷ es) m (asking_failed t e question Unasked (p.pause == first_pause) m.none.0 w m.failed.deed_is a, over)
 
   -- bytes came
-  on_bytes : (bytes : List ℕ) (moment : Moment) (es : List Exchange) → came_in news ≡ bytes → p.moment ≡ moment → wrote_in news ≡ [] → Fit moment es →
-      OnBytes p now bodies replies deed q bytes moment → Fit q.moment (next t es)
-  on_bytes bytes (Away since wait) es c is w fit m = rested (Away since wait) es is m (all_over t es m.none.0 w fit)
-  on_bytes bytes (Calling since) es c is w fit m = rested (Calling since) es is m (all_over t es m.none.0 w fit)
-  on_bytes bytes (Idle since wait) es c is w fit m = broke Unasked es m (all_over t es m.none.0 w fit)
-  on_bytes bytes (Asked since question) [] c is w fit m = absurd fit
-  on_bytes bytes (Asked since question) (e ∷ es) c is w fit m =
+  on_bytes : (bytes : List ℕ) (moment : Moment) (on : Bool) (es : List Exchange) → came_in news ≡ bytes → p.moment ≡ moment → wrote_in news ≡ [] →
+      Fits moment on es → OnBytes p now bodies replies deed q bytes moment → Stays on es
+  on_bytes bytes (Away since wait) on es c is w fit m = rested (Away since wait) on es is m (all_over t on es m.none.0 w fit)
+  on_bytes bytes (Calling since) true es c is w fit m = absurd fit
+  on_bytes bytes (Calling since) false es c is w fit m = rested (Calling since) false es is m fit
+  on_bytes bytes (Greeting since question) true es c is w fit m = absurd fit
+  on_bytes bytes (Greeting since question) false es c is w fit m = on_greeting since question.left (question.came ++ bytes) es fit m
+  on_bytes bytes (Greeted answer) true es c is w fit m = absurd fit
+  on_bytes bytes (Greeted answer) false es c is w fit m = broke Unasked false es m fit
+  on_bytes bytes (Idle since wait) on es c is w fit m = broke Unasked on es m (all_over t on es m.none.0 w fit)
+  on_bytes bytes (Asked since question) false es c is w fit m = absurd fit
+  on_bytes bytes (Asked since question) true [] c is w fit m = absurd fit
+  on_bytes bytes (Asked since question) true (e ∷ es) c is w fit m =
       on_question since question.left (question.came ++ bytes) question e es w (ap (λ z. question.came ++ z) (sym c)) refl fit.0 fit.1 m
-  on_bytes bytes (Delivering items true full useful) [] c is w fit m = absurd fit
-  on_bytes bytes (Delivering items true full useful) (e ∷ es) c is w fit m =
-      broke Unasked (e ∷ es) m (delivered_failed t e items Unasked (p.pause == first_pause) m.none.0 w m.failed.deed_is fit.0, fit.1)
-  on_bytes bytes (Delivering items false full useful) [] c is w fit m = absurd fit
-  on_bytes bytes (Delivering items false full useful) (e ∷ es) c is w fit m =
-      rested (Delivering items false full useful) (e ∷ es) is m (delivered_same t e items m.none.0 w fit.0, fit.1)
+  on_bytes bytes (Delivering items true full useful) false es c is w fit m = absurd fit
+  on_bytes bytes (Delivering items true full useful) true [] c is w fit m = absurd fit
+  on_bytes bytes (Delivering items true full useful) true (e ∷ es) c is w fit m =
+      broke Unasked true (e ∷ es) m (delivered_failed t e items Unasked (p.pause == first_pause) m.none.0 w m.failed.deed_is fit.0, fit.1)
+  on_bytes bytes (Delivering items false full useful) false es c is w fit m = absurd fit
+  on_bytes bytes (Delivering items false full useful) true [] c is w fit m = absurd fit
+  on_bytes bytes (Delivering items false full useful) true (e ∷ es) c is w fit m =
+      rested (Delivering items false full useful) true (e ∷ es) is m (delivered_same t e items m.none.0 w fit.0, fit.1)
 
-  on_came : (bytes : List ℕ) (es : List Exchange) → came_in news ≡ bytes → wrote_in news ≡ [] → Fit p.moment es →
-      OnCame p now bodies replies deed q bytes p.moment → Fit q.moment (next t es)
-  on_came [] es c w fit m = on_rest p.moment es refl w c fit m
-  on_came (byte ∷ bytes) es c w fit m = on_bytes (byte ∷ bytes) p.moment es c refl w fit m
+  on_came : (bytes : List ℕ) (on : Bool) (es : List Exchange) → came_in news ≡ bytes → wrote_in news ≡ [] → Fits p.moment on es →
+      OnCame p now bodies replies deed q bytes p.moment → Stays on es
+  on_came [] on es c w fit m = on_rest p.moment on es refl w c fit m
+  on_came (byte ∷ bytes) on es c w fit m = on_bytes (byte ∷ bytes) p.moment on es c refl w fit m
 
   -- bytes were written
-  none_written : (bytes : List ℕ) (moment : Moment) (es : List Exchange) → wrote_in news ≡ bytes → came_in news ≡ [] → p.moment ≡ moment → Fit moment es →
-      WritesNone p now bodies replies deed q bytes → Fit q.moment (next t es)
-  none_written bytes moment es w c is fit m = on_rest moment es is (w ∙ m.none_waits) c fit m.rests
+  none_written : (bytes : List ℕ) (moment : Moment) (on : Bool) (es : List Exchange) → wrote_in news ≡ bytes → came_in news ≡ [] → p.moment ≡ moment →
+      Fits moment on es → WritesNone p now bodies replies deed q bytes → Stays on es
+  none_written bytes moment on es w c is fit m = on_rest moment on es is (w ∙ m.none_waits) c fit m.rests
 
-  on_sent : (bytes : List ℕ) (moment : Moment) (es : List Exchange) → wrote_in news ≡ bytes → came_in news ≡ [] → p.moment ≡ moment → Fit moment es →
-      OnSent p now bodies replies deed q bytes moment → Fit q.moment (next t es)
-  on_sent bytes (Asked since question) [] w c is fit m = absurd fit
-  on_sent bytes (Asked since question) (e ∷ es) w c is fit m =
-      became Stay (Asked since (record { left = m.left; came = question.came })) (e ∷ es) m.becomes (
+  on_sent : (bytes : List ℕ) (moment : Moment) (on : Bool) (es : List Exchange) → wrote_in news ≡ bytes → came_in news ≡ [] → p.moment ≡ moment →
+      Fits moment on es → OnSent p now bodies replies deed q bytes moment → Stays on es
+  on_sent bytes (Greeting since question) true es w c is fit m = absurd fit
+  on_sent bytes (Greeting since question) false es w c is fit m =
+      became Stay (Greeting since (record { left = m.left; came = question.came })) false es refl m.becomes fit
+  on_sent bytes (Asked since question) false es w c is fit m = absurd fit
+  on_sent bytes (Asked since question) true [] w c is fit m = absurd fit
+  on_sent bytes (Asked since question) true (e ∷ es) w c is fit m =
+      became Stay (Asked since (record { left = m.left; came = question.came })) true (e ∷ es) refl m.becomes (
         record {
           asks = question_more t e question.left m.left (m.front ∙ ap (λ z. z ++ m.left) (sym w)) fit.0.asks;
           came = ap (λ z. e.came ++ z) c ∙ (append-nil e.came ∙ fit.0.came);
@@ -342,20 +476,42 @@ module _ (p : Peer) (now : ℕ) (bodies replies : List (List ℕ)) (deed : Deed)
         },
         fit.1,
       )
-  on_sent bytes (Away since wait) es w c is fit m = none_written bytes (Away since wait) es w c is fit m
-  on_sent bytes (Calling since) es w c is fit m = none_written bytes (Calling since) es w c is fit m
-  on_sent bytes (Idle since wait) es w c is fit m = none_written bytes (Idle since wait) es w c is fit m
-  on_sent bytes (Delivering items connected full useful) es w c is fit m = none_written bytes (Delivering items connected full useful) es w c is fit m
+  on_sent bytes (Away since wait) on es w c is fit m = none_written bytes (Away since wait) on es w c is fit m
+  on_sent bytes (Calling since) on es w c is fit m = none_written bytes (Calling since) on es w c is fit m
+  on_sent bytes (Greeted answer) on es w c is fit m = none_written bytes (Greeted answer) on es w c is fit m
+  on_sent bytes (Idle since wait) on es w c is fit m = none_written bytes (Idle since wait) on es w c is fit m
+  on_sent bytes (Delivering items connected full useful) on es w c is fit m =
+      none_written bytes (Delivering items connected full useful) on es w c is fit m
 
-one_turn : (p : Peer) (now : ℕ) (news : News) (bodies replies : List (List ℕ)) (deed : Deed) (q : Peer) (es : List Exchange) → Fit p.moment es →
-    Moves p now bodies replies deed q news → Fit q.moment (next (turn_of now news bodies replies deed) es)
-one_turn p now Time bodies replies deed q es fit m = on_time p now bodies replies deed q Time p.moment es refl refl refl fit m
-one_turn p now Through bodies replies deed q es fit m = on_through p now bodies replies deed q Through p.moment es refl refl refl fit m
-one_turn p now Over bodies replies deed q es fit m = on_over p now bodies replies deed q Over p.moment es refl refl refl fit m
-one_turn p now (Came bytes) bodies replies deed q es fit m = on_came p now bodies replies deed q (Came bytes) bytes es refl refl fit m
-one_turn p now (Sent bytes) bodies replies deed q es fit m = on_sent p now bodies replies deed q (Sent bytes) bytes p.moment es refl refl refl fit m
+one_turn : (p : Peer) (now : ℕ) (news : News) (bodies replies : List (List ℕ)) (deed : Deed) (q : Peer) (on : Bool) (es : List Exchange) →
+    Fits p.moment on es → Moves p now bodies replies deed q news →
+    Fits q.moment (goes_on (turn_of now news bodies replies deed) on) (next (turn_of now news bodies replies deed) on es)
+one_turn p now Time bodies replies deed q on es fit m = on_time p now bodies replies deed q Time p.moment on es refl refl refl fit m
+one_turn p now Through bodies replies deed q on es fit m = on_through p now bodies replies deed q Through p.moment on es refl refl refl fit m
+one_turn p now Over bodies replies deed q on es fit m = on_over p now bodies replies deed q Over p.moment on es refl refl refl fit m
+one_turn p now (Came bytes) bodies replies deed q on es fit m = on_came p now bodies replies deed q (Came bytes) bytes on es refl refl fit m
+one_turn p now (Sent bytes) bodies replies deed q on es fit m = on_sent p now bodies replies deed q (Sent bytes) bytes p.moment on es refl refl refl fit m
+
+all_fit : (every : ℕ) (turns : List PeerTurn) (q : Peer) → Went every turns q → Fits q.moment (within turns) (exchanges turns)
+all_fit every [] q e = subst (λ (x : Peer). Fits x.moment false []) (sym e) tt
+all_fit every (t ∷ older) q (p, went, m) =
+    one_turn p t.now t.news t.bodies t.replies t.deed q (within older) (exchanges older) (all_fit every older p went) m
+
+seen : (moment : Moment) (on : Bool) (es : List Exchange) → Fits moment on es → Fit moment es
+seen (Away since wait) on es fit = fit
+seen (Calling since) true es fit = absurd fit
+seen (Calling since) false es fit = fit
+seen (Greeting since question) true es fit = absurd fit
+seen (Greeting since question) false es fit = fit
+seen (Greeted answer) true es fit = absurd fit
+seen (Greeted answer) false es fit = fit
+seen (Idle since wait) on es fit = fit
+seen (Asked since question) false es fit = absurd fit
+seen (Asked since question) true [] fit = absurd fit
+seen (Asked since question) true (e ∷ es) fit = fit
+seen (Delivering items connected full useful) false es fit = absurd fit
+seen (Delivering items connected full useful) true [] fit = absurd fit
+seen (Delivering items connected full useful) true (e ∷ es) fit = fit
 
 pub exchanges_are_whole : (every : ℕ) (turns : List PeerTurn) (q : Peer) → Went every turns q → Fit q.moment (exchanges turns)
-exchanges_are_whole every [] q e = subst (λ (x : Peer). Fit x.moment []) (sym e) tt
-exchanges_are_whole every (t ∷ older) q (p, went, m) =
-    one_turn p t.now t.news t.bodies t.replies t.deed q (exchanges older) (exchanges_are_whole every older p went) m
+exchanges_are_whole every turns q went = seen q.moment (within turns) (exchanges turns) (all_fit every turns q went)

@@ -7,3 +7,4 @@ mod Turning
 mod Shortness
 mod Worked
 mod Exchanging
+mod Meeting

@@ -1,5 +1,5 @@
 -- Reading statistics, and what memory is wanting for.
-use Rattle.std.proofs.Common.{◌≡◌, ◌∙◌, ◌↔◌, ℕ, List, [], ◌∷◌, Bool, true, false, IsTrue, Option, Some, None, Result, Ok, Err, refl, sym, ap, subst, inl, inr, arith}
+use Rattle.std.proofs.Common.{◌≡◌, ◌∙◌, ◌↔◌, ℕ, List, [], ◌∷◌, IsTrue, Option, Some, None, Result, Err, refl, sym, ap, subst, inl, inr, arith}
 use Rattle.tardis_base.specs.declared.faults.ReadFault.{ReadFault}
 use Rattle.tardis_base.specs.declared.faults.ReadFault.TheVariants.{Malformed, NoMemory as OutOfMemory}
 use Rattle.tardis_base.specs.declared.replies.SiteLine.{SiteLine}
@@ -12,7 +12,7 @@ use Rattle.wire_talk.specs.ReplyReadings.{reply_of}
 use Rattle.wire_talk.specs.Spelled.{SpellsReply}
 use Rattle.wire_talk.specs.Spellings.{reply_spelling}
 use Rattle.wire_talk.specs.Laws.{RepliesHaveOneSpelling}
-use Rattle.site_peers.specs.Asking.{by_nobody, stat, StatesLines, AreStatistics}
+use Rattle.site_peers.specs.Asking.{by_nobody, meeting, met, stat, StatesLines, AreStatistics}
 use Rattle.site_peers.specs.Hearing.{TakesMemory}
 
 -- bytes that are read as a reply, which isn't sure to be had
@@ -88,3 +88,12 @@ pub counts_are_current : {S : Type 0} (m : PlainMachine S) (s t : S) (reply : Li
     Answers m s (by_nobody (stat ∷ [])) (reply ∷ []) t → AreStatistics reply lines → AreStatistics (m.reply s (0, stat)) lines
 counts_are_current m s t reply lines (inl a) are = subst (λ z. AreStatistics z lines) a.0 are
 counts_are_current m s t reply lines (inr b) are = absurd (no_statistics lines (subst (λ z. AreStatistics z lines) b.0 are))
+
+not_met : met ≡ no_memory → ⊥
+not_met is = let first : 72 ≡ 22 = ap first_byte is in absurd (omega (arith, first))
+
+pub the_met_were_met : {S : Type 0} (m : PlainMachine S) (s t : S) (introduction : List ℕ) (bodies replies : List (List ℕ)) →
+    Answers m s (by_nobody (meeting introduction ∷ bodies)) (met ∷ replies) t →
+    (m.reply s (0, meeting introduction) ≡ met) × Answers m (m.step s (0, meeting introduction)) (by_nobody bodies) replies t
+the_met_were_met m s t introduction bodies replies (inl a) = (sym a.0, a.1)
+the_met_were_met m s t introduction bodies replies (inr b) = absurd (not_met b.0)

@@ -1,21 +1,30 @@
 -- What the peer's calls do, as turns.
-use Rattle.std.proofs.Common.{◌≡◌, ◌∙◌, ℕ, ◌+◌, ◌-◌, ◌<◌, ◌≤◌, Bool, true, false, List, [], ◌∷◌, ◌++◌, length, map, take, drop, ◌⊎◌, inl, inr, refl, ap, sym, subst, arith, IsTrue}
-use Rattle.std.specs.Prelude.{◌&&◌, ◌||◌, ◌==◌, nat_le, if◌then◌else◌}
+use Rattle.std.proofs.Common.{◌≡◌, ◌≢◌, ◌∙◌, ℕ, ◌-◌, Bool, true, false, List, [], ◌∷◌, map, take, drop, inl, inr, refl, ap, sym, subst}
+use Rattle.std.specs.Prelude.{◌||◌}
 use Rattle.std.proofs.lemmas.Bool.{leb-true, leb-false}
 use Rattle.tardis_base.specs.declared.records.Item.{Item}
 use Rattle.tardis_base.specs.Plain.{PlainMachine}
+use Rattle.wire_lives.specs.declared.life_codes.TheConstants.{MET}
 use Rattle.site_peers.specs.declared.deeds.Deed.{Deed}
-use Rattle.site_peers.specs.declared.deeds.Deed.TheVariants.{Stay, Call, Close, Fail}
+use Rattle.site_peers.specs.declared.deeds.Deed.TheVariants.{Stay, Call}
 use Rattle.site_peers.specs.declared.deeds.Failure.{Failure}
-use Rattle.site_peers.specs.declared.deeds.Failure.TheVariants.{NotReached, Late, Cut, Unasked, NoCounts, NoMemory}
+use Rattle.site_peers.specs.declared.deeds.Failure.TheVariants.{Late, NotMet}
 use Rattle.site_peers.specs.declared.moments.Moment.{Moment}
-use Rattle.site_peers.specs.declared.moments.Moment.TheVariants.{Away, Calling, Idle, Asked, Delivering}
+use Rattle.site_peers.specs.declared.moments.Moment.TheVariants.{Away, Calling, Greeting, Greeted, Idle, Asked, Delivering}
 use Rattle.site_peers.specs.declared.peers.Peer.{Peer}
 use Rattle.site_peers.specs.Questions.{QuestionState}
-use Rattle.site_peers.specs.Asking.{delivery, any_applied}
-use Rattle.site_peers.specs.Times.{patience, first_pause, has_passed}
-use Rattle.site_peers.specs.Moves.{News, Time, Through, Over, Came, Sent, most_a_turn, at, failed, with_left, alone, Rests, Becomes, HasFailed, Breaks, Once, MayAsk, Delivers, HearsOf, Moves, OnTime, OnThrough, OnOver, OnBytes, OnCame, OnSent, IsDelivering, has_connection, is_called, waiting}
-use Rattle.site_peers.specs.Turns.{Answered, AnswersFrom, Made, Turned}
+use Rattle.site_peers.specs.Asking.{delivery, any_applied, meeting, verdict}
+use Rattle.site_peers.specs.Times.{patience, has_passed}
+use Rattle.site_peers.specs.Moves.{News, Time, Through, most_a_turn, at, with_left, Rests, Becomes, HasFailed, Breaks, Once, MayAsk, GoesBy, MayGreet, Moves, OnTime, OnThrough, is_called}
+use Rattle.site_peers.specs.Turns.{AnswersFrom, Made, Turned}
+use Rattle.site_peers.proofs.Delivering.{answered_then}
+
+abbrev asked_so : (left came : List ℕ) → QuestionState
+asked_so left came = record { left = left; came = came }
+
+-- a question of which nothing was written and to which nothing came
+pub question_of : (pull left came : List ℕ) → pull ≡ left → came ≡ [] → asked_so (drop 0 pull) came ≡ asked_so left []
+question_of pull left came is none = ap (λ z. asked_so z came) is ∙ ap (λ z. asked_so left z) none
 
 -- nothing is asked of the machine, which is as before
 pub turned_alone : {S : Type 0} (m : PlainMachine S) (at_first : S → Type 0) (p : Peer) (news : News) (now : ℕ) (deed : Deed) (q : Peer) →
@@ -68,29 +77,11 @@ module _ (p : Peer) (now : ℕ) (deed : Deed) (q : Peer) where
   idle_waits since wait passed is t fails d same = subst (λ m. OnTime p now [] [] deed q m) (sym is)
       (until since wait passed (MayAsk p now [] [] deed q) t fails (rests d same))
 
-  pub call_late : (since : ℕ) (passed : Bool) → p.moment ≡ Calling since → passed ≡ has_passed now since patience → passed ≡ true →
-      HasFailed p now deed q Late → Moves p now [] [] deed q Time
-  call_late since passed is t holds f = subst (λ m. OnTime p now [] [] deed q m) (sym is)
-      (once since patience passed (Breaks p now [] [] deed q Late) t holds (breaks Late f))
-
-  pub call_waits : (since : ℕ) (passed : Bool) → p.moment ≡ Calling since → passed ≡ has_passed now since patience → passed ≡ false → deed ≡ Stay →
-      q ≡ p → Moves p now [] [] deed q Time
-  call_waits since passed is t fails d same = subst (λ m. OnTime p now [] [] deed q m) (sym is)
-      (until since patience passed (Breaks p now [] [] deed q Late) t fails (rests d same))
-
-  pub answer_late : (since : ℕ) (question : QuestionState) (passed : Bool) → p.moment ≡ Asked since question → passed ≡ has_passed now since patience →
-      passed ≡ true → HasFailed p now deed q Late → Moves p now [] [] deed q Time
-  answer_late since question passed is t holds f = subst (λ m. OnTime p now [] [] deed q m) (sym is)
-      (once since patience passed (Breaks p now [] [] deed q Late) t holds (breaks Late f))
-
-  pub answer_waits : (since : ℕ) (question : QuestionState) (passed : Bool) → p.moment ≡ Asked since question → passed ≡ has_passed now since patience →
-      passed ≡ false → deed ≡ Stay → q ≡ p → Moves p now [] [] deed q Time
-  answer_waits since question passed is t fails d same = subst (λ m. OnTime p now [] [] deed q m) (sym is)
-      (until since patience passed (Breaks p now [] [] deed q Late) t fails (rests d same))
-
   on_through : (moment : Moment) → is_called moment ≡ false → Rests p now [] [] deed q → OnThrough p now [] [] deed q moment
   on_through (Away since wait) fails r = r
   on_through (Calling since) fails r = absurd (cc)
+  on_through (Greeting since question) fails r = r
+  on_through (Greeted answer) fails r = r
   on_through (Idle since wait) fails r = r
   on_through (Asked since question) fails r = r
   on_through (Delivering items connected full useful) fails r = r
@@ -98,6 +89,29 @@ module _ (p : Peer) (now : ℕ) (deed : Deed) (q : Peer) where
   -- a call that came through, where there is none
   pub through_rests : (moment : Moment) → p.moment ≡ moment → is_called moment ≡ false → deed ≡ Stay → q ≡ p → Moves p now [] [] deed q Through
   through_rests moment is fails d same = subst (λ m. OnThrough p now [] [] deed q m) (sym is) (on_through moment fails (rests d same))
+
+  on_call : (moment : Moment) → is_called moment ≡ true → MayGreet p now [] [] deed q → OnThrough p now [] [] deed q moment
+  on_call (Away since wait) holds may = absurd (cc)
+  on_call (Calling since) holds may = may
+  on_call (Greeting since question) holds may = absurd (cc)
+  on_call (Greeted answer) holds may = absurd (cc)
+  on_call (Idle since wait) holds may = absurd (cc)
+  on_call (Asked since question) holds may = absurd (cc)
+  on_call (Delivering items connected full useful) holds may = absurd (cc)
+
+  -- a call came through
+  pub through_greets : (moment : Moment) → p.moment ≡ moment → is_called moment ≡ true → MayGreet p now [] [] deed q → Moves p now [] [] deed q Through
+  through_greets moment is holds may = subst (λ m. OnThrough p now [] [] deed q m) (sym is) (on_call moment holds may)
+
+-- the turn goes on as the verdict says
+pub met_goes_on : (p : Peer) (now : ℕ) (bodies replies : List (List ℕ)) (deed : Deed) (q : Peer) (why n : ℕ) → why ≡ n → why ≡ MET →
+    MayAsk p now bodies replies deed q → GoesBy p now bodies replies deed q n
+met_goes_on p now bodies replies deed q why n is met may = subst (λ k. GoesBy p now bodies replies deed q k) is (inl (met, may))
+
+pub not_met_fails : (p : Peer) (now : ℕ) (deed : Deed) (q : Peer) (why n : ℕ) → why ≡ n → why ≢ MET → HasFailed p now deed q (NotMet why) →
+    GoesBy p now [] [] deed q n
+not_met_fails p now deed q why n is other f =
+    subst (λ k. GoesBy p now [] [] deed q k) is (inr (other, record { none = (refl, refl); failed = f }))
 
 -- a peer is itself at its moment
 pub as_it_is : (p : Peer) (moment : Moment) → p.moment ≡ moment → at p moment ≡ p
@@ -116,6 +130,32 @@ pub answer_given_up : (p : Peer) (now : ℕ) (deed : Deed) (q : Peer) (since : �
 answer_given_up p now deed q since question is once =
     subst (λ m. OnTime p now [] [] deed q m) (sym is)
     (subst (λ x. Once x now [] [] deed q since patience (Breaks x now [] [] deed q Late)) (as_it_is p (Asked since question) is) once)
+
+pub greeting_given_up : (p : Peer) (now : ℕ) (deed : Deed) (q : Peer) (since : ℕ) (question : QuestionState) → p.moment ≡ Greeting since question →
+    Once (at p (Greeting since question)) now [] [] deed q since patience (Breaks (at p (Greeting since question)) now [] [] deed q Late) →
+    Moves p now [] [] deed q Time
+greeting_given_up p now deed q since question is once =
+    subst (λ m. OnTime p now [] [] deed q m) (sym is)
+    (subst (λ x. Once x now [] [] deed q since patience (Breaks x now [] [] deed q Late)) (as_it_is p (Greeting since question) is) once)
+
+-- the site was asked to meet the peer, and the turn went on
+pub introduction_put : {S : Type 0} (m : PlainMachine S) (from mid to : S → Type 0) (p : Peer) (now : ℕ) (deed : Deed) (q : Peer) (answer request reply : List ℕ) →
+    p.moment ≡ Greeted answer → request ≡ meeting answer → AnswersFrom m from mid (request ∷ []) (reply ∷ []) →
+    Made m mid to (λ bodies replies. GoesBy (at p (Greeted answer)) now bodies replies deed q (verdict reply)) → Turned m from to p Time now deed q
+introduction_put m from mid to p now deed q answer request reply is asks first made = record {
+  bodies = meeting answer ∷ made.bodies;
+  replies = reply ∷ made.replies;
+  answered = λ s f. answered_then m mid to (meeting answer ∷ []) made.bodies (reply ∷ []) made.replies s
+      (subst (λ body. AnswersFrom m from mid (body ∷ []) (reply ∷ [])) asks first s f) made.answered;
+  does = subst (λ moment. OnTime p now (meeting answer ∷ made.bodies) (reply ∷ made.replies) deed q moment) (sym is) (record {
+    reply = reply;
+    more = made.bodies;
+    told = made.replies;
+    asked = refl;
+    replied = refl;
+    goes = subst (λ x. GoesBy x now made.bodies made.replies deed q (verdict reply)) (as_it_is p (Greeted answer) is) made.does;
+  });
+}
 
 pub idle_due : (p : Peer) (now : ℕ) (bodies replies : List (List ℕ)) (deed : Deed) (q : Peer) (since wait : ℕ) (passed : Bool) → p.moment ≡ Idle since wait →
     passed ≡ has_passed now since wait → passed ≡ true → MayAsk (at p (Idle since wait)) now bodies replies deed q → Moves p now bodies replies deed q Time

@@ -1,5 +1,5 @@
 -- What an exchange with a peer asks: of the own site by actor 0, and of the peer.
-use Rattle.std.specs.Prelude.{◌≡◌, ℕ, ◌==◌, Bool, false, List, [], ◌∷◌, ◌++◌, map}
+use Rattle.std.specs.Prelude.{◌≡◌, ℕ, ◌==◌, Bool, false, List, [], ◌∷◌, ◌++◌, map, if◌then◌else◌}
 use Rattle.std.specs.List.{list_any}
 use Rattle.tardis_base.specs.declared.records.Item.{Item}
 use Rattle.tardis_base.specs.declared.records.Item.TheVariants.{State, Promise}
@@ -11,13 +11,32 @@ use Rattle.tardis_base.specs.declared.replies.Reply.TheVariants.{Stat as Statist
 use Rattle.tardis_base.specs.Plain.{Event}
 use Rattle.frame_cut.specs.Frames.{frame}
 use Rattle.wire_item.specs.Spellings.{u32_spelling}
+use Rattle.wire_lives.specs.declared.life_codes.TheConstants.{LIFE, MEET, MET}
 use Rattle.wire_talk.specs.Spellings.{request_spelling}
 use Rattle.wire_talk.specs.Spelled.{SpellsReply}
 use Rattle.wire_talk.specs.declared.reply_codes.TheConstants.{APPLIED}
+use Rattle.site_peers.specs.declared.introductions.TheConstants.{NO_VERDICT}
 
 -- these requests, by actor 0
 abbrev pub by_nobody : List (List ℕ) → List Event
 by_nobody bodies = map (λ body. (0, body)) bodies
+
+-- the frame that asks a peer for its introduction
+abbrev pub greeting : List ℕ
+greeting = frame (LIFE ∷ [])
+
+-- here is a peer's introduction: may it be exchanged with
+abbrev pub meeting : List ℕ → List ℕ
+meeting introduction = MEET ∷ introduction
+
+-- the reply that it may
+abbrev pub met : List ℕ
+met = MEET ∷ MET ∷ []
+
+-- the verdict that a reply is; a number of its own where it is none
+abbrev pub verdict : List ℕ → ℕ
+verdict (code ∷ why ∷ []) = if code == MEET then why else NO_VERDICT
+verdict _ = NO_VERDICT
 
 -- how many states of each site are known here
 abbrev pub stat : List ℕ

@@ -2,8 +2,10 @@
 pub mod Asking
 pub mod Questions
 pub mod Hearing
+pub mod Introductions
 pub mod Times
 pub mod Moves
 pub mod Turns
 pub mod Runs
+pub mod Connections
 pub mod Rows

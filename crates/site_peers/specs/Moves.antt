@@ -2,19 +2,23 @@
 use Rattle.std.specs.Prelude.{◌≡◌, ◌≢◌, ℕ, ◌-◌, ◌<◌, ◌≤◌, ◌==◌, Bool, true, false, ◌&&◌, ◌||◌, List, [], ◌∷◌, ◌++◌, map, take, drop, ◌⊎◌, if◌then◌else◌}
 use Rattle.tardis_base.specs.declared.records.Item.{Item}
 use Rattle.tardis_base.specs.declared.replies.SiteLine.{SiteLine}
+use Rattle.wire_lives.specs.declared.life_codes.TheConstants.{MET}
 use Rattle.site_peers.specs.declared.deeds.Deed.{Deed}
 use Rattle.site_peers.specs.declared.deeds.Deed.TheVariants.{Stay, Call, Close, Fail}
 use Rattle.site_peers.specs.declared.deeds.Failure.{Failure}
-use Rattle.site_peers.specs.declared.deeds.Failure.TheVariants.{NotReached, Late, Cut, Unasked, NoCounts, NoMemory}
+use Rattle.site_peers.specs.declared.deeds.Failure.TheVariants.{NotReached, Late, Cut, NotMet, Unasked, NoCounts, NoMemory}
 use Rattle.site_peers.specs.declared.hearing.Heard.{Heard}
 use Rattle.site_peers.specs.declared.hearing.Heard.TheVariants.{More, Answer, Other}
+use Rattle.site_peers.specs.declared.introductions.Introduced.{Introduced}
+use Rattle.site_peers.specs.declared.introductions.Introduced.TheVariants.{More as MoreOfIt, Answer as Introduces, Other as NoIntroduction}
 use Rattle.site_peers.specs.declared.moments.Moment.{Moment}
-use Rattle.site_peers.specs.declared.moments.Moment.TheVariants.{Away, Calling, Idle, Asked, Delivering}
+use Rattle.site_peers.specs.declared.moments.Moment.TheVariants.{Away, Calling, Greeting, Greeted, Idle, Asked, Delivering}
 use Rattle.site_peers.specs.declared.peers.Peer.{Peer}
 use Rattle.site_peers.specs.declared.deliveries.TheConstants.{ITEMS_A_TURN}
 use Rattle.site_peers.specs.Questions.{QuestionState}
-use Rattle.site_peers.specs.Asking.{stat, delivery, AreStatistics, pull_frame, any_applied}
+use Rattle.site_peers.specs.Asking.{stat, delivery, AreStatistics, pull_frame, any_applied, greeting, meeting, verdict}
 use Rattle.site_peers.specs.Hearing.{IsHeard}
+use Rattle.site_peers.specs.Introductions.{IsIntroduced}
 use Rattle.site_peers.specs.Times.{patience, first_pause, longer}
 
 -- What the edge tells of a peer: the time alone; that the call came through; that the call failed or the connection is over; bytes that came
@@ -64,31 +68,16 @@ pub record HasFailed (p : Peer) (now : ℕ) (deed : Deed) (q : Peer) (why : Fail
   pub deed_is : deed ≡ Fail why (p.pause == first_pause)
   pub next : q ≡ failed p now
 
+-- nothing was asked of the site
+abbrev pub AsksNothing : (bodies replies : List (List ℕ)) → Type 0
+AsksNothing bodies replies = (bodies ≡ []) × (replies ≡ [])
+
 -- A turn of the peer p at this time: these requests were asked by actor 0 and so replied, this is asked of the edge, and p became q.
 module _ (p : Peer) (now : ℕ) (bodies replies : List (List ℕ)) (deed : Deed) (q : Peer) where
-  abbrev pub AsksNothing : Type 0
-  AsksNothing = (bodies ≡ []) × (replies ≡ [])
-
-  -- nothing is done
-  pub record Rests : Type 0 where
-    pub none : AsksNothing
-    pub deed_is : deed ≡ Stay
-    pub same : q ≡ p
-
-  -- this is asked of the edge, and the moment is another
-  pub record Becomes (d : Deed) (moment : Moment) : Type 0 where
-    pub none : AsksNothing
-    pub deed_is : deed ≡ d
-    pub next : q ≡ at p moment
-
   -- it failed and the site wasn't asked anything
   pub record Breaks (why : Failure) : Type 0 where
-    pub none : AsksNothing
+    pub none : AsksNothing bodies replies
     pub failed : HasFailed p now deed q why
-
-  -- once so long has passed P, and until then nothing
-  abbrev pub Once : (since wait : ℕ) → Type 0 → Type 0
-  Once since wait P = ((wait ≤ now - since) × P) ⊎ ((now - since < wait) × Rests)
 
   -- the reply to Stat has these counts, and the peer is to be asked for what is above them
   pub record Pulls (reply : List ℕ) : Type 0 where
@@ -113,6 +102,44 @@ module _ (p : Peer) (now : ℕ) (bodies replies : List (List ℕ)) (deed : Deed)
   abbrev pub MayAsk : Type 0
   MayAsk = Asks ⊎ Breaks NoMemory
 
+  -- by this verdict the site met the peer, which is asked; or it didn't, and nothing more is asked of either
+  abbrev pub GoesBy : (verdict_is : ℕ) → Type 0
+  GoesBy verdict_is = ((verdict_is ≡ MET) × MayAsk) ⊎ ((verdict_is ≢ MET) × Breaks (NotMet verdict_is))
+
+-- First the site was asked to meet the peer of this introduction, and by its verdict the turn goes on.
+pub record Meets (p : Peer) (now : ℕ) (bodies replies : List (List ℕ)) (deed : Deed) (q : Peer) (introduction : List ℕ) : Type 0 where
+  pub reply : List ℕ
+  pub more : List (List ℕ)
+  pub told : List (List ℕ)
+  pub asked : bodies ≡ meeting introduction ∷ more
+  pub replied : replies ≡ reply ∷ told
+  pub goes : GoesBy p now more told deed q (verdict reply)
+
+-- Such a turn, by what the edge tells and where the peer stands.
+module _ (p : Peer) (now : ℕ) (bodies replies : List (List ℕ)) (deed : Deed) (q : Peer) where
+  abbrev pub Fails : Failure → Type 0
+  Fails why = Breaks p now bodies replies deed q why
+
+  -- nothing is done
+  pub record Rests : Type 0 where
+    pub none : AsksNothing bodies replies
+    pub deed_is : deed ≡ Stay
+    pub same : q ≡ p
+
+  -- this is asked of the edge, and the moment is another
+  pub record Becomes (d : Deed) (moment : Moment) : Type 0 where
+    pub none : AsksNothing bodies replies
+    pub deed_is : deed ≡ d
+    pub next : q ≡ at p moment
+
+  -- once so long has passed P, and until then nothing
+  abbrev pub Once : (since wait : ℕ) → Type 0 → Type 0
+  Once since wait P = ((wait ≤ now - since) × P) ⊎ ((now - since < wait) × Rests)
+
+  -- the peer is to be asked for its introduction, or there was no memory for the question
+  abbrev pub MayGreet : Type 0
+  MayGreet = Becomes Stay (Greeting now (record { left = greeting; came = [] })) ⊎ Fails NoMemory
+
   -- the first items were delivered, in order, and the others are left
   pub record Delivers (items : List Item) (connected full useful : Bool) : Type 0 where
     pub asked : bodies ≡ map delivery (take most_a_turn items)
@@ -122,30 +149,50 @@ module _ (p : Peer) (now : ℕ) (bodies replies : List (List ℕ)) (deed : Deed)
   -- what the time says
   abbrev pub OnTime : Moment → Type 0
   OnTime (Away since wait) = Once since wait (Becomes Call (Calling now))
-  OnTime (Calling since) = Once since patience (Breaks Late)
-  OnTime (Idle since wait) = Once since wait MayAsk
-  OnTime (Asked since question) = Once since patience (Breaks Late)
+  OnTime (Calling since) = Once since patience (Fails Late)
+  OnTime (Greeting since question) = Once since patience (Fails Late)
+  OnTime (Greeted answer) = Meets p now bodies replies deed q answer
+  OnTime (Idle since wait) = Once since wait (MayAsk p now bodies replies deed q)
+  OnTime (Asked since question) = Once since patience (Fails Late)
   OnTime (Delivering items connected full useful) = Delivers items connected full useful
 
   -- the call came through
   abbrev pub OnThrough : Moment → Type 0
-  OnThrough (Calling since) = MayAsk
+  OnThrough (Calling since) = MayGreet
   OnThrough _ = Rests
 
   -- The call failed, or the connection is over. What was heard before is delivered all the same, and a connection that is over while nothing is
   -- asked is no failure.
   abbrev pub OnOver : Moment → Type 0
   OnOver (Away since wait) = Rests
-  OnOver (Calling since) = Breaks NotReached
+  OnOver (Calling since) = Fails NotReached
+  OnOver (Greeting since question) = Fails Cut
+  OnOver (Greeted answer) = Fails Cut
   OnOver (Idle since wait) = Becomes Close (Away since wait)
-  OnOver (Asked since question) = Breaks Cut
+  OnOver (Asked since question) = Fails Cut
   OnOver (Delivering items true full useful) = Becomes Close (Delivering items false full useful)
   OnOver (Delivering items false full useful) = Rests
+
+  abbrev pub Learns : (since : ℕ) → Introduced → Type 0
+  Learns since (MoreOfIt question) = Becomes Stay (Greeting since question)
+  Learns since (Introduces answer) = Becomes Stay (Greeted answer)
+  Learns since (NoIntroduction why) = Fails why
+
+  -- all that came since the question for an introduction is this
+  pub record Greets (since : ℕ) (left came : List ℕ) : Type 0 where
+    pub introduced : Introduced
+    pub is : IsIntroduced left came introduced
+    pub learns : Learns since introduced
+
+  -- an introduction that came before the question was written whole wasn't asked for
+  abbrev pub GreetsOf : (since : ℕ) → (left came : List ℕ) → Type 0
+  GreetsOf since [] came = Greets since [] came
+  GreetsOf since (byte ∷ left) came = Fails Unasked
 
   abbrev pub Uses : (since : ℕ) → Heard → Type 0
   Uses since (More question) = Becomes Stay (Asked since question)
   Uses since (Answer items full) = Becomes Stay (Delivering items true full false)
-  Uses since (Other why) = Breaks why
+  Uses since (Other why) = Fails why
 
   -- all that came since the question is this
   pub record Hears (since : ℕ) (left came : List ℕ) : Type 0 where
@@ -156,26 +203,28 @@ module _ (p : Peer) (now : ℕ) (bodies replies : List (List ℕ)) (deed : Deed)
   -- an answer to a question that wasn't written whole wasn't asked for
   abbrev pub HearsOf : (since : ℕ) → (left came : List ℕ) → Type 0
   HearsOf since [] came = Hears since [] came
-  HearsOf since (byte ∷ left) came = Breaks Unasked
+  HearsOf since (byte ∷ left) came = Fails Unasked
 
   -- bytes came
   abbrev pub OnBytes : List ℕ → Moment → Type 0
   OnBytes bytes (Away since wait) = Rests
   OnBytes bytes (Calling since) = Rests
-  OnBytes bytes (Idle since wait) = Breaks Unasked
+  OnBytes bytes (Greeting since question) = GreetsOf since question.left (question.came ++ bytes)
+  OnBytes bytes (Greeted answer) = Fails Unasked
+  OnBytes bytes (Idle since wait) = Fails Unasked
   OnBytes bytes (Asked since question) = HearsOf since question.left (question.came ++ bytes)
-  OnBytes bytes (Delivering items true full useful) = Breaks Unasked
+  OnBytes bytes (Delivering items true full useful) = Fails Unasked
   OnBytes bytes (Delivering items false full useful) = Rests
 
   abbrev pub OnCame : List ℕ → Moment → Type 0
   OnCame [] moment = Rests
   OnCame (byte ∷ bytes) moment = OnBytes (byte ∷ bytes) moment
 
-  -- a front of the question was written
-  pub record Writes (since : ℕ) (question : QuestionState) (bytes : List ℕ) : Type 0 where
+  -- a front of the question was written, which is the moment's
+  pub record Writes (Asking : QuestionState → Moment) (question : QuestionState) (bytes : List ℕ) : Type 0 where
     pub left : List ℕ
     pub front : question.left ≡ bytes ++ left
-    pub becomes : Becomes Stay (Asked since (record { left = left; came = question.came }))
+    pub becomes : Becomes Stay (Asking (record { left = left; came = question.came }))
 
   -- where nothing is asked no bytes wait
   pub record WritesNone (bytes : List ℕ) : Type 0 where
@@ -184,7 +233,8 @@ module _ (p : Peer) (now : ℕ) (bodies replies : List (List ℕ)) (deed : Deed)
 
   -- bytes were written
   abbrev pub OnSent : List ℕ → Moment → Type 0
-  OnSent bytes (Asked since question) = Writes since question bytes
+  OnSent bytes (Greeting since question) = Writes (Greeting since) question bytes
+  OnSent bytes (Asked since question) = Writes (Asked since) question bytes
   OnSent bytes _ = WritesNone bytes
 
   -- what the peer does of what the edge tells
@@ -195,13 +245,10 @@ module _ (p : Peer) (now : ℕ) (bodies replies : List (List ℕ)) (deed : Deed)
   Moves (Came bytes) = OnCame bytes p.moment
   Moves (Sent bytes) = OnSent bytes p.moment
 
--- items of an answer are being delivered
-abbrev pub IsDelivering : Moment → Type 0
-IsDelivering (Delivering items connected full useful) = Unit {0}
-IsDelivering _ = ⊥
-
 -- the peer has a connection
 abbrev pub has_connection : Moment → Bool
+has_connection (Greeting since question) = true
+has_connection (Greeted answer) = true
 has_connection (Idle since wait) = true
 has_connection (Asked since question) = true
 has_connection (Delivering items connected full useful) = connected
@@ -213,11 +260,13 @@ is_called _ = false
 
 -- the bytes that are to be written to the peer
 abbrev pub waiting : Moment → List ℕ
+waiting (Greeting since question) = question.left
 waiting (Asked since question) = question.left
 waiting _ = []
 
--- bytes of the peer are read: it is asked, or it has a connection and nothing is asked of it
+-- bytes of the peer are read: it is greeted or asked, or it has a connection and nothing is asked of it
 abbrev pub listens : Moment → Bool
+listens (Greeting since question) = true
 listens (Idle since wait) = true
 listens (Asked since question) = true
 listens _ = false
@@ -226,6 +275,8 @@ listens _ = false
 abbrev pub rest_of : Moment → (now : ℕ) → ℕ
 rest_of (Away since wait) now = wait - (now - since)
 rest_of (Calling since) now = patience - (now - since)
+rest_of (Greeting since question) now = patience - (now - since)
+rest_of (Greeted answer) now = 0
 rest_of (Idle since wait) now = wait - (now - since)
 rest_of (Asked since question) now = patience - (now - since)
 rest_of (Delivering items connected full useful) now = 0

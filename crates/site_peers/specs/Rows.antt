@@ -1,25 +1,24 @@
 -- Worked turns of a peer with which an exchange is made every 5 seconds.
-use Rattle.std.specs.Prelude.{◌≡◌, ℕ, Bool, true, false, List, [], ◌∷◌, map}
+use Rattle.std.specs.Prelude.{◌≡◌, ℕ, true, false, List, [], ◌∷◌, ◌++◌, map}
 use Rattle.tardis_base.specs.Ids.{root}
 use Rattle.tardis_base.specs.declared.records.Write.TheVariants.{Delete}
 use Rattle.tardis_base.specs.declared.records.Record.{Record}
-use Rattle.tardis_base.specs.declared.records.Consent.{Consent}
-use Rattle.tardis_base.specs.declared.records.Item.{Item}
 use Rattle.tardis_base.specs.declared.records.Item.TheVariants.{State, Promise}
 use Rattle.tardis_base.specs.declared.records.Batch.{Batch}
-use Rattle.tardis_base.specs.declared.replies.Reply.{Reply}
 use Rattle.tardis_base.specs.declared.replies.Reply.TheVariants.{Stat as Statistics, Batch as BatchIs, Applied, Known}
 use Rattle.frame_cut.specs.Frames.{frame}
+use Rattle.wire_lives.specs.declared.life_codes.TheConstants.{ANOTHER_LIFE, NO_INTRODUCTION}
 use Rattle.wire_talk.specs.Spellings.{reply_spelling}
 use Rattle.site_peers.specs.declared.deeds.Deed.{Deed}
 use Rattle.site_peers.specs.declared.deeds.Deed.TheVariants.{Stay, Call, Fail}
-use Rattle.site_peers.specs.declared.deeds.Failure.TheVariants.{Late, NotABatch}
+use Rattle.site_peers.specs.declared.deeds.Failure.TheVariants.{Late, NotMet, NotABatch}
 use Rattle.site_peers.specs.declared.moments.Moment.{Moment}
-use Rattle.site_peers.specs.declared.moments.Moment.TheVariants.{Away, Calling, Idle, Asked, Delivering}
+use Rattle.site_peers.specs.declared.moments.Moment.TheVariants.{Away, Calling, Greeting, Greeted, Idle, Asked, Delivering}
 use Rattle.site_peers.specs.declared.peers.Peer.{Peer}
-use Rattle.site_peers.specs.Asking.{stat, delivery, items_of}
+use Rattle.site_peers.specs.Asking.{stat, delivery, items_of, meeting}
 use Rattle.site_peers.specs.Moves.{News, Time, Through, Came, Sent, Moves}
-use Rattle.site_peers.specs.Runs.{PeerTurn, Went, Exchange, exchanges}
+use Rattle.site_peers.specs.Runs.{PeerTurn, Went, exchanges}
+use Rattle.site_peers.specs.Connections.{since_call, IsMet}
 
 abbrev pub id_of : ℕ → List ℕ → Record
 id_of n key = record { id = record { site = 2; sequence = n }; parents = root ∷ []; writes = (key, Delete) ∷ [] }
@@ -34,6 +33,14 @@ batch = record {
 -- of site 1 there are 3 states here, and none of site 2
 abbrev pub statistics : List ℕ
 statistics = reply_spelling (Statistics 3 3 1 0 (record { count = 3; floor = root; number = 0 } ∷ record { count = 0; floor = root; number = 0 } ∷ []))
+
+-- the frame that asks for an introduction
+abbrev pub hello : List ℕ
+hello = 0 ∷ 0 ∷ 0 ∷ 1 ∷ 71 ∷ []
+
+-- site 2 of 2, with its life
+abbrev pub introduction : List ℕ
+introduction = 71 ∷ 0 ∷ 2 ∷ 0 ∷ 2 ∷ 1 ∷ 2 ∷ 3 ∷ 4 ∷ 5 ∷ 6 ∷ 7 ∷ 8 ∷ 9 ∷ 10 ∷ 11 ∷ 12 ∷ 13 ∷ 14 ∷ 15 ∷ 16 ∷ []
 
 -- the frame that asks for what is above 3 and 0: Pull, 2 counts
 abbrev pub question : List ℕ
@@ -51,15 +58,19 @@ turn now news bodies replies deed = record { now = now; news = news; bodies = bo
 abbrev pub peer : ℕ → Moment → Peer
 peer pause moment = record { every = 5000; pause = pause; moment = moment }
 
--- An exchange, the newest turn first: the peer is called at 7, the call came through at 9, the question was written, the answer came, and its
--- three items were delivered at 12, so that the next exchange is due at 5012.
+-- An exchange, the newest turn first: the peer is called at 5, the call came through at 6, the question for its introduction was written, the
+-- introduction came at 8, and at 9 the site met the peer and told its counts; the question was written, the answer came, and its three items were
+-- delivered at 12, so that the next exchange is due at 5012.
 abbrev pub one_exchange : List PeerTurn
 one_exchange =
     turn 12 Time (map delivery (items_of batch)) (applied ∷ applied ∷ applied ∷ []) Stay
     ∷ turn 11 (Came answer) [] [] Stay
     ∷ turn 9 (Sent question) [] [] Stay
-    ∷ turn 9 Through (stat ∷ []) (statistics ∷ []) Stay
-    ∷ turn 7 Time [] [] Call
+    ∷ turn 9 Time (meeting introduction ∷ stat ∷ []) ((72 ∷ 0 ∷ []) ∷ statistics ∷ []) Stay
+    ∷ turn 8 (Came (frame introduction)) [] [] Stay
+    ∷ turn 7 (Sent hello) [] [] Stay
+    ∷ turn 6 Through [] [] Stay
+    ∷ turn 5 Time [] [] Call
     ∷ []
 
 abbrev pub ExchangeIsMade : Type 0
@@ -74,6 +85,28 @@ ExchangeIsSeen = exchanges one_exchange ≡ record {
   asked = delivery (State (id_of 1 (97 ∷ []))) ∷ delivery (State (id_of 2 (98 ∷ []))) ∷ delivery (Promise (record { site = 2; number = 1; floor = root; count = 2 })) ∷ [];
   failed = false;
 } ∷ []
+
+-- the peer was met
+abbrev pub PeerIsMet : Type 0
+PeerIsMet = IsMet (since_call one_exchange)
+
+-- A peer with another life than the one in which it was met: it is asked nothing, which is told, and left alone for 1 second.
+abbrev pub NotMetIsTold : Type 0
+NotMetIsTold = Moves (peer 1000 (Greeted introduction)) 9 (meeting introduction ∷ []) ((72 ∷ 1 ∷ []) ∷ []) (Fail (NotMet ANOTHER_LIFE) true)
+    (peer 2000 (Away 9 1000)) Time
+
+-- the peer was asked for its introduction at 9, and all was written
+abbrev pub greeted_at_9 : Peer
+greeted_at_9 = peer 1000 (Greeting 9 (record { left = []; came = [] }))
+
+-- an introduction is waited for as long as an answer
+abbrev pub GreetingLateIsTold : Type 0
+GreetingLateIsTold = Moves greeted_at_9 30009 [] [] (Fail Late true) (peer 2000 (Away 30009 1000)) Time
+
+-- 65 bytes are no introduction, and the site isn't asked
+abbrev pub LongIntroductionIsTold : Type 0
+LongIntroductionIsTold = Moves greeted_at_9 20 [] [] (Fail (NotMet NO_INTRODUCTION) true) (peer 2000 (Away 20 1000))
+    (Came (frame (introduction ++ introduction ++ introduction ++ 0 ∷ 0 ∷ [])))
 
 -- the peer was asked at 9, and all was written
 abbrev pub asked_at_9 : Peer

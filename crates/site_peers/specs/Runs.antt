@@ -1,5 +1,6 @@
 -- Runs of a peer: its turns, and the exchanges that they made.
 use Rattle.std.specs.Prelude.{◌≡◌, ℕ, ◌<◌, ◌≤◌, Bool, true, false, ◌||◌, List, [], ◌∷◌, ◌++◌, length, map, bytes_eq, if◌then◌else◌, ◌⊎◌}
+use Rattle.std.specs.List.{list_any}
 use Rattle.tardis_base.specs.declared.records.Item.{Item}
 use Rattle.tardis_base.specs.declared.records.Batch.{Batch}
 use Rattle.tardis_base.specs.declared.replies.SiteLine.{SiteLine}
@@ -7,14 +8,14 @@ use Rattle.tardis_base.specs.declared.replies.Reply.TheVariants.{Batch as BatchI
 use Rattle.tardis_base.specs.Plain.{PlainMachine, Answers}
 use Rattle.wire_talk.specs.Spelled.{SpellsReply}
 use Rattle.site_peers.specs.declared.deeds.Deed.{Deed}
-use Rattle.site_peers.specs.declared.deeds.Deed.TheVariants.{Fail}
+use Rattle.site_peers.specs.declared.deeds.Deed.TheVariants.{Call, Fail}
 use Rattle.site_peers.specs.declared.moments.Moment.{Moment}
-use Rattle.site_peers.specs.declared.moments.Moment.TheVariants.{Away, Calling, Idle, Asked, Delivering}
+use Rattle.site_peers.specs.declared.moments.Moment.TheVariants.{Away, Calling, Greeting, Greeted, Idle, Asked, Delivering}
 use Rattle.site_peers.specs.declared.peers.Peer.{Peer}
 use Rattle.site_peers.specs.Questions.{QuestionState}
-use Rattle.site_peers.specs.Asking.{by_nobody, stat, delivery, items_of, AreStatistics, pull_frame}
+use Rattle.site_peers.specs.Asking.{by_nobody, stat, delivery, items_of, AreStatistics, pull_frame, meeting, met}
 use Rattle.site_peers.specs.Hearing.{StartsWith}
-use Rattle.site_peers.specs.Moves.{News, Time, Through, Over, Came, Sent, most_a_turn, fresh, Moves, Rests, rest_of}
+use Rattle.site_peers.specs.Moves.{News, Time, Came, Sent, most_a_turn, fresh, Moves, Rests, rest_of}
 
 -- what a turn was: what the edge told at this time, the requests of actor 0 and their replies, and what was asked of the edge
 pub record PeerTurn : Type 0 where
@@ -29,8 +30,8 @@ abbrev pub Went : (every : ℕ) → List PeerTurn → Peer → Type 0
 Went every [] q = q ≡ fresh every
 Went every (t ∷ older) q = (p : Peer) × Went every older p × Moves p t.now t.bodies t.replies t.deed q t.news
 
--- An exchange: the reply to Stat with which it began; and since then, until the next one, the bytes that were written to the peer, those that came
--- of it, the requests that were asked, and whether anything failed.
+-- An exchange: the reply to Stat with which it began; and since then, until the next one or until the peer was called again, the bytes that were
+-- written to the peer, those that came of it, the requests that were asked, and whether anything failed.
 pub record Exchange : Type 0 where
   pub statistics : List ℕ
   pub wrote : List ℕ
@@ -60,18 +61,27 @@ more_of t e = record {
   failed = e.failed || is_failure t.deed;
 }
 
-abbrev pub first_of : List (List ℕ) → List ℕ
-first_of [] = []
-first_of (reply ∷ replies) = reply
-
--- the exchange that begins with a turn
-abbrev pub begun_by : PeerTurn → Exchange
-begun_by t = record { statistics = first_of t.replies; wrote = []; came = []; asked = []; failed = is_failure t.deed }
+abbrev pub is_call : Deed → Bool
+is_call Call = true
+is_call _ = false
 
 -- with Stat an exchange begins
 abbrev pub begins : List (List ℕ) → Bool
-begins [] = false
-begins (body ∷ bodies) = bytes_eq body stat
+begins bodies = list_any (λ body. bytes_eq body stat) bodies
+
+-- the reply to Stat, of requests and their replies
+abbrev pub told_of : (bodies replies : List (List ℕ)) → List ℕ
+told_of (body ∷ bodies) (reply ∷ replies) = if bytes_eq body stat then reply else told_of bodies replies
+told_of _ _ = []
+
+-- the exchange that begins with a turn
+abbrev pub begun_by : PeerTurn → Exchange
+begun_by t = record { statistics = told_of t.bodies t.replies; wrote = []; came = []; asked = []; failed = is_failure t.deed }
+
+-- an exchange began since the peer was last called
+abbrev pub within : List PeerTurn → Bool
+within [] = false
+within (t ∷ older) = if begins t.bodies then true else (if is_call t.deed then false else within older)
 
 abbrev pub last_more : PeerTurn → List Exchange → List Exchange
 last_more t [] = []
@@ -80,7 +90,9 @@ last_more t (e ∷ es) = more_of t e ∷ es
 -- the exchanges of these turns, the newest first
 abbrev pub exchanges : List PeerTurn → List Exchange
 exchanges [] = []
-exchanges (t ∷ older) = if begins t.bodies then begun_by t ∷ exchanges older else last_more t (exchanges older)
+exchanges (t ∷ older) =
+    let before = exchanges older in
+    if begins t.bodies then begun_by t ∷ before else (if within (t ∷ older) then last_more t before else before)
 
 -- The reply to Stat has counts, and what was written to the peer is, with these bytes behind it, the frame that asks for what is above them.
 pub record IsQuestion (e : Exchange) (left : List ℕ) : Type 0 where
@@ -144,6 +156,8 @@ Fit (Delivering items connected full useful) [] = ⊥
 Fit (Delivering items connected full useful) (e ∷ es) = IsDelivered e items × AreOver es
 Fit (Away since wait) es = AreOver es
 Fit (Calling since) es = AreOver es
+Fit (Greeting since question) es = AreOver es
+Fit (Greeted answer) es = AreOver es
 Fit (Idle since wait) es = AreOver es
 
 -- Whatever turns a peer made, its exchanges are one after another: each asked by the counts that the site told when it began, and delivered the
@@ -164,3 +178,8 @@ TimeSaysNothing = (p q : Peer) (now : ℕ) (bodies replies : List (List ℕ)) (d
 abbrev pub CountsAreCurrent : {S : Type 0} → PlainMachine S → Type 0
 CountsAreCurrent m = (s t : _) (reply : List ℕ) (lines : List SiteLine) → Answers m s (by_nobody (stat ∷ [])) (reply ∷ []) t → AreStatistics reply lines
     → AreStatistics (m.reply s (0, stat)) lines
+
+-- Where a site met a peer, its reply says so, and what was asked behind it in the turn was answered from the state to which that led.
+abbrev pub TheMetWereMet : {S : Type 0} → PlainMachine S → Type 0
+TheMetWereMet m = (s t : _) (introduction : List ℕ) (bodies replies : List (List ℕ)) → Answers m s (by_nobody (meeting introduction ∷ bodies)) (met ∷ replies) t
+    → (m.reply s (0, meeting introduction) ≡ met) × Answers m (m.step s (0, meeting introduction)) (by_nobody bodies) replies t

@@ -19,18 +19,20 @@ pub enum Deed {
 pub enum Failure {
     /// The call failed.
     NotReached,
-    /// The call, or the whole answer, took longer than 30 seconds.
+    /// The call, or a whole answer, took longer than 30 seconds.
     Late,
-    /// The connection was over before the answer was whole.
+    /// The connection was over before the peer was met, or before the answer was whole.
     Cut,
-    /// The length word of the answer was above 1,048,576.
+    /// The length word of an answer was above 1,048,576.
     LongFrame { len: u32 },
+    /// The own site didn't meet the peer: its verdict on the introduction (`wire_lives::life_codes`), or `NO_VERDICT` where it gave none.
+    NotMet { why: u8 },
     /// The answer was a whole frame, and no batch.
     NotABatch,
     /// Bytes came that weren't asked for.
     Unasked,
     /// The own site didn't tell its counts.
     NoCounts,
-    /// There was no memory for the question, or for the batch.
+    /// There was no memory for a question, or for the batch.
     NoMemory,
 }

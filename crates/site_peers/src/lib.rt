@@ -8,6 +8,7 @@ mod asks;
 mod deeds;
 mod deliveries;
 mod hearing;
+mod introductions;
 mod laws;
 mod moments;
 mod peers;
@@ -19,7 +20,10 @@ mod times;
 
 pub use deeds::{Deed, Failure};
 pub use deliveries::{Delivery, ITEMS_A_TURN};
-pub use laws::{counts_are_current, exchanges_are_whole, turns_are_as_worked};
+pub use introductions::{Introduction, LONGEST_INTRODUCTION, NO_VERDICT};
+pub use laws::{
+    counts_are_current, exchanges_are_whole, only_the_met_are_asked, turns_are_as_worked,
+};
 pub use moments::Moment;
 pub use peers::Peer;
 pub use questions::Question;

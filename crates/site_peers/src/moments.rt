@@ -4,6 +4,7 @@ ghost use Rattle.std.specs.Prelude.{◌≡◌};
 ghost use Rattle.site_peers.specs.Moves.{alone as moment_alone, has_connection, is_called};
 
 use crate::deliveries::Delivery;
+use crate::introductions::Introduction;
 use crate::questions::Question;
 
 /// Where a peer stands. Times are in milliseconds, as the edge's clock showed them.
@@ -18,7 +19,16 @@ pub enum Moment {
     Calling {
         since: u64,
     },
-    /// It has a connection, and is asked once `wait` has passed.
+    /// The call came through, and it was asked for its introduction.
+    Greeting {
+        since: u64,
+        question: Question,
+    },
+    /// It answered, and its answer is put to the own site next.
+    Greeted {
+        answer: Introduction,
+    },
+    /// It has a connection and was met, and is asked once `wait` has passed.
     Idle {
         since: u64,
         wait: u64,
@@ -62,6 +72,7 @@ impl Moment {
         ensures { result ≡ has_connection self.now }
     {
         match self {
+            Moment::Greeting { .. } | Moment::Greeted { .. } => true,
             Moment::Idle { .. } | Moment::Asked { .. } => true,
             Moment::Delivering { connected, .. } => *connected,
             Moment::Away { .. } | Moment::Calling { .. } => false,

@@ -2,13 +2,15 @@
 
 ghost use Rattle.std.specs.Prelude.{◌≡◌, ◌*◌, ◌≤◌, ◌++◌, [], length, take};
 ghost use Rattle.tardis_base.specs.Sizes.{piece};
-ghost use Rattle.site_peers.specs.Moves.{News, Moves, Breaks, HasFailed, MayAsk, HearsOf, Once, finished, fresh, waiting, listens, rest_of};
+ghost use Rattle.site_peers.specs.Moves.{News, Moves, Breaks, HasFailed, GoesBy, GreetsOf, MayAsk, MayGreet, HearsOf, Once, finished, fresh, waiting, listens, rest_of};
+ghost use Rattle.site_peers.specs.Asking.{verdict as verdict_of};
 ghost use Rattle.site_peers.specs.Times.{patience};
 ghost use Rattle.site_peers.specs.Turns.{Turned, Made};
 
 use crate::asks::{ask, either};
 use crate::deeds::{Deed, Failure};
 use crate::hearing::Heard;
+use crate::introductions::{Introduced, verdict};
 use crate::moments::Moment;
 use crate::questions::{Question, Room};
 use crate::times::{FIRST_PAUSE, PATIENCE, left, longer_pause, passed, wait_after};
@@ -16,6 +18,7 @@ use rest_machine::Settling;
 use std::alloc::Global;
 use std::mem;
 use tardis_base::ReplyBuf;
+use wire_lives::life_codes::MET;
 use wire_talk::request_codes;
 
 /// The request Stat.
@@ -44,8 +47,8 @@ impl Peer {
         }
     }
 
-    /// The edge tells the time. The peer is called or asked where that is due, given up where it is late, and items of its answer are delivered,
-    /// up to 64.
+    /// The edge tells the time. The peer is called or asked where that is due, given up where it is late, its introduction is put to the machine, and
+    /// items of its answer are delivered, up to 64.
     pub fn tick<M: Settling>(
         &mut self,
         alloc: Global,
@@ -69,6 +72,14 @@ impl Peer {
                 let since = *since;
                 self.give_up(now, since)
             }
+            Moment::Greeting { since, .. } => {
+                let since = *since;
+                self.give_up(now, since)
+            }
+            Moment::Greeted { answer } => {
+                ask(machine, answer.meeting(), reply);
+                self.go_on(alloc, machine, now, reply)
+            }
             Moment::Idle { since, wait } => {
                 if passed(now, *since, *wait) {
                     self.ask(alloc, machine, now, reply)
@@ -89,7 +100,7 @@ impl Peer {
         }
     }
 
-    /// The edge tells that the call came through: the peer is asked.
+    /// The edge tells that the call came through: the peer is asked for its introduction, and the machine nothing.
     pub fn connected<M: Settling>(
         &mut self,
         alloc: Global,
@@ -101,7 +112,7 @@ impl Peer {
         ensures opening { M.opening machine.new ≡ M.opening machine.old }
     {
         if self.moment.is_calling() {
-            self.ask(alloc, machine, now, reply)
+            self.greet(alloc, now)
         } else {
             Deed::Stay
         }
@@ -114,6 +125,7 @@ impl Peer {
         match &mut self.moment {
             Moment::Away { .. } => Deed::Stay,
             Moment::Calling { .. } => self.fail(now, Failure::NotReached),
+            Moment::Greeting { .. } | Moment::Greeted { .. } => self.fail(now, Failure::Cut),
             Moment::Idle { since, wait } => {
                 self.moment = Moment::Away {
                     since: *since,
@@ -142,6 +154,9 @@ impl Peer {
             return Deed::Stay;
         }
         match mem::replace(&mut self.moment, Moment::Away { since: 0, wait: 0 }) {
+            Moment::Greeting { since, question } => {
+                self.hear_introduction(now, since, question, bytes)
+            }
             Moment::Asked { since, question } => self.hear(alloc, now, since, question, bytes),
             moment => {
                 if moment.is_connected() {
@@ -152,6 +167,22 @@ impl Peer {
                 }
             }
         }
+    }
+
+    /// Uses the bytes that came to the question for an introduction.
+    fn hear_introduction(&mut self, now: u64, since: u64, question: Question, bytes: &[u8]) -> Deed
+        requires { length bytes.now ≤ piece }
+        ensures { GreetsOf self.old now [] [] result self.new since question.left (question.came ++ bytes.now) }
+    {
+        if !question.is_sent() {
+            return self.fail(now, Failure::Unasked);
+        }
+        match question.introduction(bytes) {
+            Introduced::More(question) => self.moment = Moment::Greeting { since, question },
+            Introduced::Answer(answer) => self.moment = Moment::Greeted { answer },
+            Introduced::Other(why) => return self.fail(now, why),
+        }
+        Deed::Stay
     }
 
     /// Uses the bytes that came to a question.
@@ -188,10 +219,47 @@ impl Peer {
     pub fn sent(&mut self, now: u64, count: usize) -> Deed
         ensures { Moves self.old now [] [] result self.new (News.Sent (take count (waiting self.old.moment))) }
     {
-        if let Moment::Asked { question, .. } = &mut self.moment {
-            question.pass(count);
+        match &mut self.moment {
+            Moment::Greeting { question, .. } => question.pass(count),
+            Moment::Asked { question, .. } => question.pass(count),
+            _ => {}
         }
         Deed::Stay
+    }
+
+    /// Has the peer asked for its introduction.
+    fn greet(&mut self, alloc: Global, now: u64) -> Deed
+        ensures { MayGreet self.old now [] [] result self.new }
+    {
+        match Room::new(alloc) {
+            Ok(room) => {
+                self.moment = Moment::Greeting {
+                    since: now,
+                    question: room.greeting(),
+                };
+                Deed::Stay
+            }
+            Err(_none) => self.fail(now, Failure::NoMemory),
+        }
+    }
+
+    /// Goes on as the verdict says that the machine replied.
+    fn go_on<M: Settling>(
+        &mut self,
+        alloc: Global,
+        machine: &mut M,
+        now: u64,
+        reply: &mut ReplyBuf,
+    ) -> Deed
+        ensures asked { Made M.plain (M.stands machine.old) (M.stands machine.new) (λ bodies replies. GoesBy self.old now bodies replies result self.new (verdict_of reply.old)) }
+        ensures opening { M.opening machine.new ≡ M.opening machine.old }
+    {
+        let why = verdict(reply.bytes());
+        if why == MET {
+            self.ask(alloc, machine, now, reply)
+        } else {
+            self.fail(now, Failure::NotMet { why })
+        }
     }
 
     /// Asks the machine for its counts, and has the peer asked for what is above them.
@@ -274,16 +342,19 @@ impl Peer {
         ensures { result.now ≡ waiting self.now.moment }
     {
         match &self.moment {
-            Moment::Asked { question, .. } => question.left(),
+            Moment::Greeting { question, .. } | Moment::Asked { question, .. } => question.left(),
             _ => &[],
         }
     }
 
-    /// Whether bytes of the peer are read: it was asked, or it has a connection and nothing is asked of it.
+    /// Whether bytes of the peer are read: it was greeted or asked, or it has a connection and nothing is asked of it.
     pub fn wants_read(&self) -> bool
         ensures { result ≡ listens self.now.moment }
     {
-        matches!(&self.moment, Moment::Idle { .. } | Moment::Asked { .. })
+        matches!(
+            &self.moment,
+            Moment::Greeting { .. } | Moment::Idle { .. } | Moment::Asked { .. }
+        )
     }
 
     /// How many milliseconds it is until the time says anything.
@@ -292,8 +363,10 @@ impl Peer {
     {
         match &self.moment {
             Moment::Away { since, wait } | Moment::Idle { since, wait } => left(now, *since, *wait),
-            Moment::Calling { since } | Moment::Asked { since, .. } => left(now, *since, PATIENCE),
-            Moment::Delivering { .. } => 0,
+            Moment::Calling { since }
+            | Moment::Greeting { since, .. }
+            | Moment::Asked { since, .. } => left(now, *since, PATIENCE),
+            Moment::Greeted { .. } | Moment::Delivering { .. } => 0,
         }
     }
 }

@@ -2,13 +2,17 @@
 
 ghost use Rattle.std.specs.Prelude.{◌≡◌, ◌==◌, [], length, drop, IfOk, IfSome, IfNone, List};
 ghost use Rattle.tardis_base.specs.declared.replies.SiteLine.{SiteLine};
-ghost use Rattle.site_peers.specs.Asking.{AreStatistics, pull_frame};
+ghost use Rattle.site_peers.specs.Asking.{AreStatistics, greeting as greeting_frame, pull_frame};
 
 use crate::pulls::put_pull;
 use frame_cut::FrameCutter;
 use std::alloc::Global;
 use std::marker::Model;
 use tardis_base::{NoMemory, ReplyBuf};
+use wire_lives::life_codes::LIFE;
+
+/// The frame that asks a peer for its introduction.
+const GREETING: [u8; 5] = [0, 0, 0, 1, LIFE];
 
 /// A question to a peer. It is seen as the bytes of its frame that weren't written yet, and those that came since.
 #[derive(Drop)]
@@ -45,6 +49,21 @@ impl Room {
         let pull = ReplyBuf::new(alloc)?;
         let cutter = FrameCutter::new(alloc)?;
         Ok(Room { pull, cutter })
+    }
+
+    /// The question for a peer's introduction.
+    pub(crate) fn greeting(self) -> Question
+        requires { self.cutter ≡ [] }
+        ensures { result ≡ record { left = greeting_frame; came = [] } }
+    {
+        let Room { mut pull, cutter } = self;
+        pull.clear();
+        pull.push(&GREETING);
+        Question {
+            pull,
+            sent: 0,
+            cutter,
+        }
     }
 
     /// The question for what is above the counts of the statistics, which it uses up. None where they are no statistics.

@@ -8,7 +8,7 @@ use rest_machine::InMemory;
 use std::alloc::Global;
 use tardis_base::{Machine, NoMemory, ReplyBuf};
 
-/// Replies to Stat that of the only site 3 states are known, and to everything else that it was applied.
+/// Meets the peer of each introduction; replies to Stat that of the only site 3 states are known, and to everything else that it was applied.
 #[derive(Drop)]
 struct Replying {
     asked: u64,
@@ -19,7 +19,7 @@ impl Machine for Replying {
 
     ghost plain = { record {
       step = λ s e. s;
-      reply = λ s e. if length e.1 == 1 then 14 ∷ 0 ∷ 0 ∷ 0 ∷ 0 ∷ 0 ∷ 0 ∷ 0 ∷ 3 ∷ 0 ∷ 0 ∷ 0 ∷ 3 ∷ 0 ∷ 0 ∷ 0 ∷ 1 ∷ 0 ∷ 0 ∷ 1 ∷ 0 ∷ 0 ∷ 0 ∷ 3 ∷ 0 ∷ 0 ∷ 0 ∷ 0 ∷ 0 ∷ 0 ∷ 0 ∷ 0 ∷ 0 ∷ 0 ∷ [] else 17 ∷ [];
+      reply = λ s e. if length e.1 == 1 then 14 ∷ 0 ∷ 0 ∷ 0 ∷ 0 ∷ 0 ∷ 0 ∷ 0 ∷ 3 ∷ 0 ∷ 0 ∷ 0 ∷ 3 ∷ 0 ∷ 0 ∷ 0 ∷ 1 ∷ 0 ∷ 0 ∷ 1 ∷ 0 ∷ 0 ∷ 0 ∷ 3 ∷ 0 ∷ 0 ∷ 0 ∷ 0 ∷ 0 ∷ 0 ∷ 0 ∷ 0 ∷ 0 ∷ 0 ∷ [] else (if length e.1 == 22 then 72 ∷ 0 ∷ [] else 17 ∷ []);
       is_sure = λ e. true;
     } };
 
@@ -33,6 +33,8 @@ impl Machine for Replying {
         out.clear();
         if request.len() == 1 {
             out.push(&STATISTICS);
+        } else if request.len() == 22 {
+            out.push(&[72, 0]);
         } else {
             out.push(&[17]);
         }
@@ -43,6 +45,11 @@ impl Machine for Replying {
 const STATISTICS: [u8; 34] = [
     14, 0, 0, 0, 0, 0, 0, 0, 3, 0, 0, 0, 3, 0, 0, 0, 1, 0, 0, 1, 0, 0, 0, 3, 0, 0, 0, 0, 0, 0, 0,
     0, 0, 0,
+];
+
+/// The introduction of site 2 of 2, in its frame.
+const INTRODUCTION: [u8; 25] = [
+    0, 0, 0, 21, 71, 0, 2, 0, 2, 1, 2, 3, 4, 5, 6, 7, 8, 9, 10, 11, 12, 13, 14, 15, 16,
 ];
 
 /// A batch of two records, which delete a key each, and of one consent; in its frame.
@@ -59,14 +66,19 @@ fn exchanges_are_made(rt: HostRuntime) {
     };
     let mut reply = ReplyBuf::new(alloc).expect(&rt, "memory");
     let mut peer = Peer::new(5);
-    assert!(rt; peer.tick(alloc, &mut machine, 7, &mut reply) == Deed::Call);
-    assert!(rt; peer.connected(alloc, &mut machine, 9, &mut reply) == Deed::Stay);
+    assert!(rt; peer.tick(alloc, &mut machine, 5, &mut reply) == Deed::Call);
+    assert!(rt; peer.connected(alloc, &mut machine, 6, &mut reply) == Deed::Stay);
+    assert!(rt; peer.to_write() == [0, 0, 0, 1, 71].as_slice());
+    assert!(rt; peer.sent(7, 5) == Deed::Stay);
+    assert!(rt; peer.receive(alloc, 8, &INTRODUCTION) == Deed::Stay);
+    assert!(rt; peer.rests_for(8) == 0);
+    assert!(rt; peer.tick(alloc, &mut machine, 9, &mut reply) == Deed::Stay);
     assert!(rt; peer.to_write() == [0, 0, 0, 6, 19, 1, 0, 0, 0, 3].as_slice());
     assert!(rt; peer.sent(9, 10) == Deed::Stay);
     assert!(rt; peer.receive(alloc, 10, &BATCH[..20]) == Deed::Stay);
     assert!(rt; peer.receive(alloc, 11, &BATCH[20..]) == Deed::Stay);
     assert!(rt; peer.rests_for(11) == 0);
     assert!(rt; peer.tick(alloc, &mut machine, 12, &mut reply) == Deed::Stay);
-    assert!(rt; machine.machine.asked == 4);
+    assert!(rt; machine.machine.asked == 5);
     assert!(rt; peer.rests_for(13) == 4_999);
 }

@@ -1,4 +1,4 @@
-use Rattle.std.proofs.Common.{◌≡◌, ◌∙◌, ◌∷◌, ◌<◌, [], length, sym, subst}
+use Rattle.std.proofs.Common.{◌∙◌, ◌∷◌, [], sym, subst}
 use Rattle.site_peers.specs.Asking.{items_of}
 use Rattle.site_peers.specs.Turns.{AnswersFrom}
 use Rattle.site_peers.proofs.Delivering.{next_of, within}

@@ -1,6 +1,6 @@
 use Rattle.std.proofs.Common.{◌∙◌, ap, arith}
 use Rattle.site_peers.specs.Asking.{is_applied}
-use Rattle.site_peers.proofs.Delivering.{DeliveredAll, delivered_more, delivered_all}
+use Rattle.site_peers.proofs.Delivering.{delivered_more, delivered_all}
 use Rattle.site_peers.proofs.deliveries.Delivery.deliver_some.Goals as goal
 
 pub loop-item-preserved : goal.loop-item-preserved

@@ -2,7 +2,7 @@ use Rattle.std.proofs.Common.{refl}
 use Rattle.site_peers.specs.declared.deeds.Deed.TheVariants.{Stay, Call}
 use Rattle.site_peers.specs.declared.moments.Moment.TheVariants.{Away, Calling, Idle}
 use Rattle.site_peers.specs.Moves.{Time, at, MayAsk, Moves}
-use Rattle.site_peers.proofs.Turning.{turned_alone, made_as, away_due, away_waits, call_given_up, answer_given_up, as_it_is, idle_due, idle_waits, items_delivered}
+use Rattle.site_peers.proofs.Turning.{turned_alone, made_as, away_due, away_waits, call_given_up, greeting_given_up, introduction_put, answer_given_up, as_it_is, idle_due, idle_waits, items_delivered}
 use Rattle.site_peers.proofs.peers.Peer.tick.Goals as goal
 
 pub returns-then-passed-clause-turned : goal.returns-then-passed-clause-turned
@@ -27,10 +27,10 @@ returns-in-Calling-clause-turned g c =
 pub returns-then-passed-2-clause-turned : goal.returns-then-passed-2-clause-turned
 returns-then-passed-2-clause-turned g c =
     let p = c.args.self.now in
-    made_as g.M.Settling.plain (g.M.Settling.stands c.args.machine.now) (g.M.Settling.stands c.ask.new.machine)
-    (λ bodies replies. MayAsk (at p (Idle c.in-Idle.since c.in-Idle.wait)) c.args.now bodies replies c.ask.result c.ask.new.self)
-    (λ bodies replies. Moves p c.args.now bodies replies c.ask.result c.ask.new.self Time) c.ask.ensures.asked
-    (λ bodies replies may. idle_due p c.args.now bodies replies c.ask.result c.ask.new.self c.in-Idle.since c.in-Idle.wait c.passed-in-Idle.result c.in-Idle.is
+    made_as g.M.Settling.plain (g.M.Settling.stands c.args.machine.now) (g.M.Settling.stands c.ask-then-passed-2.new.machine)
+    (λ bodies replies. MayAsk (at p (Idle c.in-Idle.since c.in-Idle.wait)) c.args.now bodies replies c.ask-then-passed-2.result c.ask-then-passed-2.new.self)
+    (λ bodies replies. Moves p c.args.now bodies replies c.ask-then-passed-2.result c.ask-then-passed-2.new.self Time) c.ask-then-passed-2.ensures.asked
+    (λ bodies replies may. idle_due p c.args.now bodies replies c.ask-then-passed-2.result c.ask-then-passed-2.new.self c.in-Idle.since c.in-Idle.wait c.passed-in-Idle.result c.in-Idle.is
     c.passed-in-Idle.ensures c.if-passed-2.true may)
 
 pub returns-else-passed-2-clause-turned : goal.returns-else-passed-2-clause-turned
@@ -51,3 +51,16 @@ returns-in-Delivering-clause-turned g c =
     items_delivered g.M.Settling.plain (g.M.Settling.stands c.args.machine.now) (g.M.Settling.stands c.deliver_some-more.new.machine) c.args.self.now c.args.now
     c.finish.new.self _ c.deliver_some-more.new.self _ _ _ c.deliver_some-more.result c.either.result c.in-Delivering.is c.deliver_some-more.ensures.left
     c.deliver_some-more.ensures.delivered c.either.ensures c.finish.ensures
+
+pub returns-in-Greeting-clause-turned : goal.returns-in-Greeting-clause-turned
+returns-in-Greeting-clause-turned g c =
+    turned_alone g.M.Settling.plain (g.M.Settling.stands c.args.machine.now) c.args.self.now Time c.args.now c.give_up-in-Greeting.result
+    c.give_up-in-Greeting.new.self
+    (greeting_given_up c.args.self.now c.args.now c.give_up-in-Greeting.result c.give_up-in-Greeting.new.self _ _ c.in-Greeting.is
+    c.give_up-in-Greeting.ensures)
+
+pub returns-in-Greeted-clause-turned : goal.returns-in-Greeted-clause-turned
+returns-in-Greeted-clause-turned g c =
+    introduction_put g.M.Settling.plain (g.M.Settling.stands c.args.machine.now) (g.M.Settling.stands c.ask.new.machine) (g.M.Settling.stands c.go_on.new.machine)
+    c.args.self.now c.args.now c.go_on.result c.go_on.new.self c.in-Greeted.answer c.meeting.result.now c.ask.new.reply c.in-Greeted.is c.meeting.ensures
+    c.ask.ensures.answered c.go_on.ensures.asked
