@@ -1,6 +1,6 @@
 //! The turns of peers: what is done of what the edge offers of them.
 
-ghost use Rattle.std.specs.Prelude.{◌≡◌, ◌<◌, ◌≤◌, ℕ, true, false, List, length, slice_get, Some, IfOk};
+ghost use Rattle.std.specs.Prelude.{◌≡◌, ◌*◌, ◌<◌, ◌≤◌, ℕ, true, false, List, length, slice_get, Some, IfOk};
 ghost use Rattle.tardis_base.specs.Sizes.{piece};
 ghost use Rattle.site_peers.specs.Moves.{News, fresh};
 ghost use Rattle.hub.specs.declared.ports.PeerNews.{PeerNews};
