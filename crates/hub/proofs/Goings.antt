@@ -1,9 +1,9 @@
 -- A run goes on by a turn of a peer.
-use Rattle.std.proofs.Common.{◌≡◌, ◌≢◌, ℕ, ◌+◌, ◌<◌, ◌≤◌, false, List, true, [], ◌∷◌, ◌++◌, length, take, Option, Some, None, ◌⊎◌, inl, inr, refl}
+use Rattle.std.proofs.Common.{◌≡◌, ◌≢◌, ℕ, ◌+◌, ◌<◌, ◌≤◌, false, List, true, [], ◌∷◌, ◌++◌, length, take, get_or, Option, Some, None, ◌⊎◌, inl, inr, refl}
 use Rattle.std.proofs.Common.{sym, ◌∙◌, subst, ap, arith}
-use Rattle.std.specs.Prelude.{Bool, ◌*◌, ◌==◌, slice_get, IfSome}
+use Rattle.std.specs.Prelude.{Bool, ◌*◌, ◌==◌, slice_get, slice_set, IfSome}
 use Rattle.std.proofs.lemmas.Bool.{cases_eq, eq-eqb, eqb-true, false_from_ne_true}
-use Rattle.std.proofs.lemmas.Option.{slice_get_within}
+use Rattle.std.proofs.lemmas.Option.{slice_get_within, slice_get-get_or}
 use Rattle.tardis_base.specs.Plain.{PlainMachine, Answers}
 use Rattle.site_peers.specs.declared.peers.Peer.{Peer}
 use Rattle.site_peers.specs.declared.deeds.Deed.{Deed}
@@ -164,3 +164,37 @@ pub no_such_peer : {S : Type 0} (w : PlainSettling S) (from : S → Type 0) (pee
 no_such_peer w from peers n now news tally before past fetches connections s turns keeps =
     rests w fetches from connections peers peers n now news tally before before s turns keeps (λ k. refl) refl refl
     (inl (omega (arith, past, keeps.many)))
+
+-- one place of peers was set
+set_there : (peers : List Peer) (n : ℕ) (q : Peer) → n < length peers → slice_get (slice_set peers n q) n ≡ Some q
+set_there [] n q within = absurd (omega (arith, within))
+set_there (p ∷ peers) ℕ.zero q within = refl
+set_there (p ∷ peers) (ℕ.suc n) q within = set_there peers n q (omega (arith, within))
+
+set_other : (peers : List Peer) (n k : ℕ) (q : Peer) → k ≢ n → slice_get (slice_set peers n q) k ≡ slice_get peers k
+set_other [] n k q other = refl
+set_other (p ∷ peers) ℕ.zero ℕ.zero q other = absurd (other refl)
+set_other (p ∷ peers) ℕ.zero (ℕ.suc k) q other = refl
+set_other (p ∷ peers) (ℕ.suc n) ℕ.zero q other = refl
+set_other (p ∷ peers) (ℕ.suc n) (ℕ.suc k) q other = set_other peers n k q (λ e. other (ap (λ z. ℕ.suc z) e))
+
+set_many : (peers : List Peer) (n : ℕ) (q : Peer) → length (slice_set peers n q) ≡ length peers
+set_many [] n q = refl
+set_many (p ∷ peers) ℕ.zero q = refl
+set_many (p ∷ peers) (ℕ.suc n) q = ap (λ z. ℕ.suc z) (set_many peers n q)
+
+pub only_set : (peers : List Peer) (n : ℕ) (other q : Peer) → n < length peers → IsOnly n (get_or peers n other) q peers (slice_set peers n q)
+only_set peers n other q within = record {
+  was = slice_get-get_or peers n other within;
+  is = set_there peers n q within;
+  others = λ k away. set_other peers n k q away;
+  many = set_many peers n q;
+}
+
+-- a fresh peer behind fresh ones
+pub fresh_more : (peers : List Peer) (p : Peer) (n : ℕ) → ((k : ℕ) → k < length peers → slice_get peers k ≡ Some p) → n < length peers + 1 →
+    slice_get (peers ++ p ∷ []) n ≡ Some p
+fresh_more [] p ℕ.zero all within = refl
+fresh_more [] p (ℕ.suc n) all within = absurd (omega (arith, within))
+fresh_more (x ∷ peers) p ℕ.zero all within = all 0 (omega arith)
+fresh_more (x ∷ peers) p (ℕ.suc n) all within = fresh_more peers p n (λ k less. all (ℕ.suc k) (omega (arith, less))) (omega (arith, within))

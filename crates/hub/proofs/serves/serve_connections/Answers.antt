@@ -59,5 +59,5 @@ returns-in-Unsettled-clause-served g c = λ s stands.
 
 pub returns-clause-served : goal.returns-clause-served
 returns-clause-served g c = λ s stands.
-    run_spent (behind_doors g.M.Settling.plain g.M.Settling.through g.M.Settling.is_settled g.M.Settling.settled) (option_map rule_of c.args.upkeep) c.args.fetches (g.M.Settling.stands c.loop-turns.machine) s c.loop-turns.connections c.loop-turns.tally
+    run_spent (behind_doors g.M.Settling.plain g.M.Settling.through g.M.Settling.is_settled g.M.Settling.settled) (option_map rule_of c.args.upkeep) c.args.fetches (g.M.Settling.stands c.loop-turns.machine) s c.loop-turns.connections c.loop-turns.peers c.loop-turns.tally
     (g.P.Ports.seen c.args.ports.now) (g.P.Ports.seen c.loop-turns.ports) c.loop-turns.turns (c.loop-turns.invariant.led s stands) (omega arith)
