@@ -17,7 +17,8 @@ mod waitings;
 
 pub use connections::Connection;
 pub use laws::{
-    fetches_are_whole, one_trail, one_trail_as_seen, one_trail_behind_doors, one_trail_behind_doors_as_seen,
+    fetches_are_whole, one_trail, one_trail_as_seen, one_trail_behind_doors,
+    one_trail_behind_doors_as_seen,
 };
 pub use memory::{MemoryPorts, Move};
 pub use ports::{Fetches, PeerNews, Ports, Ready, Seen};
