@@ -1,5 +1,5 @@
 -- What is counted of a machine's replies.
-use Rattle.std.proofs.Common.{◌≡◌, ℕ, ◌+◌, ◌<◌, ◌≤◌, Bool, true, false, List, [], ◌∷◌, ◌++◌, length, Option, Some, None, ◌⊎◌, ◌∙◌, refl, sym, ap, subst, inl, inr, arith}
+use Rattle.std.proofs.Common.{◌≡◌, ℕ, ◌+◌, ◌<◌, ◌≤◌, Bool, true, false, List, [], ◌∷◌, length, Option, Some, None, ◌∙◌, refl, sym, ap, subst, inl, inr, arith}
 use Rattle.std.specs.Prelude.{filter}
 use Rattle.tardis_base.specs.Plain.{Event, PlainMachine, Answers, no_memory}
 use Rattle.site_peers.specs.declared.peers.Peer.{Peer}

@@ -9,8 +9,6 @@ mod memory;
 mod noting;
 mod ports;
 mod serves;
-#[cfg(test)]
-mod tests;
 mod turns;
 mod upkeeps;
 mod waitings;

@@ -1,4 +1,4 @@
-use Rattle.std.proofs.Common.{arith, slice_set, slice_get, refl, subst, sym}
+use Rattle.std.proofs.Common.{arith, slice_set, subst, sym}
 use Rattle.hub.specs.Settlings.{behind_doors}
 use Rattle.hub.specs.Keeping.{PeerWaits}
 use Rattle.hub.proofs.Goings.{no_such_peer, only_set}

@@ -4,7 +4,7 @@ ghost use Rattle.std.specs.Prelude.{◌≡◌, ◌==◌, ◌∷◌, [], ℕ, Boo
 ghost use Rattle.std.specs.Prelude.{refl};
 ghost use Rattle.std.proofs.Common.{inl};
 
-use crate::{End, Fetches, MemoryPorts, Move, PeerNews, Seen, Upkeep, serve};
+use hub::{End, Fetches, MemoryPorts, Move, PeerNews, Seen, Upkeep, serve};
 use rest_machine::Settling;
 use std::alloc::Global;
 use std::process::Abort;
@@ -170,7 +170,7 @@ fn letter_of(call: &Seen) -> Option<u8> {
 /// machine was asked, and the letters of the calls that the edge saw.
 fn came_of(rt: &impl Abort, alloc: Global, letters: &[u8], settles: u8) -> (End, u8, Vec<u8>) {
     let mut moves = Vec::new(alloc);
-    let mut now = 0;
+    let mut now: u64 = 0;
     for letter in letters {
         now = now.saturating_add(500);
         moves
