@@ -12,6 +12,7 @@ pub mod Timing
 pub mod Runs
 pub mod Keeping
 pub mod Laws
+pub mod PeerLaws
 pub mod Doors
 pub mod DoorLaws
 pub mod Memory

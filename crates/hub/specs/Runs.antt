@@ -17,7 +17,7 @@ use Rattle.hub.specs.Answering.{asks}
 use Rattle.hub.specs.Telling.{Tells}
 use Rattle.hub.specs.Talks.{Talk, IsTalk}
 use Rattle.hub.specs.Timing.{due, AreTimely}
-use Rattle.hub.specs.Turns.{Turn, Rested, Opened, Missed, TurnedAway, Received, Sent, Ended, KeptUp, Settled, PeerDid, calls_in, talk, IsPeer, HasSome, IsRight}
+use Rattle.hub.specs.Turns.{Turn, Rested, Opened, Missed, TurnedAway, Received, Sent, Ended, KeptUp, Settled, PeerDid, calls_in, talk, IsPeer, ArePeers, HasSome, IsRight}
 
 -- the request that closes a session
 abbrev pub close : List ℕ
@@ -92,7 +92,7 @@ pub record IsRun {S : Type 0} (w : PlainSettling S) (rule : Option UpkeepRule) (
   pub ran : Ran w s turns state
   pub stands : to state
   pub served : AreServed fetches turns
-  pub fetched : (n : ℕ) → n < fetches.peers → (p : Peer) × IsPeer fetches turns n p
+  pub fetched : ArePeers fetches turns
   pub last : List Seen
   pub seen : Tells before after (calls_in turns ++ last)
   pub timely : AreTimely rule turns

@@ -94,6 +94,10 @@ pub record IsPeer (fetches : Fetches) (older : List Turn) (n : ℕ) (p : Peer) :
   pub is_one : n < fetches.peers
   pub went : Went (1000 * fetches.seconds) (turns_of n older) p
 
+-- each peer, as its turns led to it
+abbrev pub ArePeers : Fetches → List Turn → Type 0
+ArePeers fetches turns = (n : ℕ) → n < fetches.peers → (p : Peer) × IsPeer fetches turns n p
+
 -- no more is read of a connection: much waits, or the frame that is next is too long
 abbrev pub IsShut : Option Talk → Type 0
 IsShut None = Unit {0}

@@ -1,8 +1,8 @@
 //! The turns of peers: what is done of what the edge offers of them.
 
-ghost use Rattle.std.specs.Prelude.{◌≡◌, ◌<◌, ◌≤◌, ℕ, true, false, List, length, slice_get, Some, IfOk};
+ghost use Rattle.std.specs.Prelude.{◌≡◌, ◌*◌, ◌<◌, ◌≤◌, ℕ, true, false, List, [], length, slice_get, Some, IfOk};
 ghost use Rattle.tardis_base.specs.Sizes.{piece};
-ghost use Rattle.site_peers.specs.Moves.{News, fresh};
+ghost use Rattle.site_peers.specs.Moves.{News, fresh, waiting};
 ghost use Rattle.hub.specs.declared.ports.PeerNews.{PeerNews};
 ghost use Rattle.hub.specs.declared.ports.Ready.{Ready};
 ghost use Rattle.hub.specs.Settlings.{behind_doors};
@@ -22,6 +22,7 @@ use tardis_base::{NoMemory, ReplyBuf};
 use tardis_io::Failed;
 
 /// The peers of a hub.
+#[tactic(auto, using(crate::proofs::Goings::fresh_more))]
 pub(crate) fn fresh_peers(alloc: Global, fetches: Fetches) -> Result<Vec<Peer>, NoMemory>
     ensures many { IfOk result (λ peers. length peers.items ≡ fetches.peers) }
     ensures fresh { IfOk result (λ peers. (n : ℕ) → n < fetches.peers → slice_get peers.items n ≡ Some (fresh (1000 * fetches.seconds))) }
@@ -222,18 +223,27 @@ fn tell<M: Settling, P: Ports>(
     ensures cause { result ≡ false → 0 < M.faults machine.new }
     ensures opening { M.opening machine.new ≡ M.opening machine.old }
 {
-    if at.to_write().is_empty() {
-        return true;
-    }
-    match settle_owed(machine) {
-        Ok(()) => {
-            let count = ports.write_peer(peer, at.to_write());
-            let deed = at.sent(now, count);
-            carry_out(ports, peer, deed);
-            true
+    if has_to_write(at) {
+        match settle_owed(machine) {
+            Ok(()) => {
+                let count = ports.write_peer(peer, at.to_write());
+                let deed = at.sent(now, count);
+                carry_out(ports, peer, deed);
+                true
+            }
+            Err(Failed) => false,
         }
-        Err(Failed) => false,
+    } else {
+        true
     }
+}
+
+/// Whether bytes wait to be written to a peer.
+fn has_to_write(at: &Peer) -> bool
+    ensures yes { result ≡ true → 0 < length (waiting at.now.moment) }
+    ensures no { result ≡ false → waiting at.now.moment ≡ [] }
+{
+    !at.to_write().is_empty()
 }
 
 /// Does for a peer what it asks of the edge.
