@@ -46,10 +46,13 @@ putting-keeps lives at put number life known =
 -- the other site was met
 pub record IsMet (own sites : ℕ) (lives : Lives) (i : Introduction) : Type 0 where
   pub as_many : i.sites ≡ sites
+  pub other : i.number ≡ own → ⊥
   pub same : IsFalse (is_another (life_of lives i.number) i.life)
+  pub own_known : IsFalse (is_none (life_of lives own))
 
-met-so : (a b c d : Bool) → ◌≡◌ {A = ℕ} (if not a then 3 else (if b then 2 else (if c then 1 else (if d then 5 else 0)))) 0 → IsTrue a × IsFalse c
-met-so true false false false e = (refl, refl)
+met-so : (a b c d : Bool) → ◌≡◌ {A = ℕ} (if not a then 3 else (if b then 2 else (if c then 1 else (if d then 5 else 0)))) 0 →
+    IsTrue a × (IsFalse b × (IsFalse c × IsFalse d))
+met-so true false false false e = (refl, (refl, (refl, refl)))
 met-so true false false true e = absurd (let bad : ⊥ = omega (arith, e) in bad)
 met-so true false true d e = absurd (let bad : ⊥ = omega (arith, e) in bad)
 met-so true true c d e = absurd (let bad : ⊥ = omega (arith, e) in bad)
@@ -58,7 +61,7 @@ met-so false b c d e = absurd (let bad : ⊥ = omega (arith, e) in bad)
 pub is-met : (own sites : ℕ) (lives : Lives) (i : Introduction) → verdict own sites lives i ≡ 0 → IsMet own sites lives i
 is-met own sites lives i e =
     let parts = met-so (i.sites == sites) (i.number == own) (is_another (life_of lives i.number) i.life) (is_none (life_of lives own)) e in
-    record { as_many = eqb-true i.sites sites parts.0; same = parts.1 }
+    record { as_many = eqb-true i.sites sites parts.0; other = eqb-false i.number own parts.1.0; same = parts.1.1.0; own_known = parts.1.1.1 }
 
 -- ===== One request
 

@@ -54,16 +54,16 @@ module _ (m : PlainMachine Site) where
   -- ===== The trail of the site
 
   module _ (e : Event) (es : List Event) (y : List ℕ) (ys : List (List ℕ)) where
-    out-events : IsTrue (is_of_lives e.1) → others (e ∷ es) ≡ others es
+    pub out-events : IsTrue (is_of_lives e.1) → others (e ∷ es) ≡ others es
     out-events t = ap (λ (b : Bool). if not b then e ∷ others es else others es) t
 
-    in-events : IsFalse (is_of_lives e.1) → others (e ∷ es) ≡ e ∷ others es
+    pub in-events : IsFalse (is_of_lives e.1) → others (e ∷ es) ≡ e ∷ others es
     in-events f = ap (λ (b : Bool). if not b then e ∷ others es else others es) f
 
-    out-replies : IsTrue (is_of_lives e.1) → replies_to_others (e ∷ es) (y ∷ ys) ≡ replies_to_others es ys
+    pub out-replies : IsTrue (is_of_lives e.1) → replies_to_others (e ∷ es) (y ∷ ys) ≡ replies_to_others es ys
     out-replies t = cond-true (is_of_lives e.1) (replies_to_others es ys) (y ∷ replies_to_others es ys) t
 
-    in-replies : IsFalse (is_of_lives e.1) → replies_to_others (e ∷ es) (y ∷ ys) ≡ y ∷ replies_to_others es ys
+    pub in-replies : IsFalse (is_of_lives e.1) → replies_to_others (e ∷ es) (y ∷ ys) ≡ y ∷ replies_to_others es ys
     in-replies f = cond-false (is_of_lives e.1) (replies_to_others es ys) (y ∷ replies_to_others es ys) f
 
     -- it isn't in the site's trail
