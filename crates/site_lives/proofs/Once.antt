@@ -1,14 +1,13 @@
 -- Of each number one site is met.
-use Rattle.std.proofs.Common.{◌≡◌, ℕ, ◌-◌, ◌≤◌, ◌<◌, ◌==◌, ◌&&◌, List, [], ◌∷◌, get_or, Option, Some, None, IsFalse, refl, sym, ap, subst, ◌∙◌, arith, nat_le, leb-true, if◌then◌else◌}
+use Rattle.std.proofs.Common.{◌≡◌, ℕ, ◌-◌, ◌==◌, ◌&&◌, List, ◌∷◌, get_or, Option, Some, None, IsFalse, refl, sym, ap, subst, ◌∙◌, arith, nat_le, leb-true, if◌then◌else◌}
 use Rattle.std.specs.Prelude.{is_none}
 use Rattle.std.specs.Option.{option_map_or}
 use Rattle.std.proofs.lemmas.Bool.{and_parts, cond-true, eq-eqb}
 use Rattle.std.proofs.lemmas.List.{get_or-set_same}
-use Rattle.tardis_base.specs.Plain.{Event, PlainMachine, Answers}
+use Rattle.tardis_base.specs.Plain.{PlainMachine}
 use Rattle.tardis_base.specs.Valid.{is_u16}
 use Rattle.wire_lives.specs.declared.introductions.Introduction.{Introduction}
 use Rattle.wire_lives.specs.Spellings.{is_life, is_placed}
-use Rattle.wire_lives.specs.Readings.{introduction_of}
 use Rattle.wire_lives.specs.Laws.{IntroductionsHaveOneSpelling}
 use Rattle.plain_site.specs.Site.{Site}
 use Rattle.site_lives.specs.Lives.{Life, life_of, with_life, with_new, new_life, is_another, verdict, introduced, meet}
