@@ -1,11 +1,11 @@
 -- A life once known stays.
-use Rattle.std.proofs.Common.{◌≡◌, ℕ, ◌-◌, ◌≤◌, ◌<◌, Bool, true, false, ◌==◌, ◌||◌, not, List, [], ◌∷◌, length, get_or, set, Option, Some, None, IsTrue, IsFalse}
+use Rattle.std.proofs.Common.{◌≡◌, ℕ, ◌-◌, ◌<◌, Bool, true, false, ◌==◌, not, List, [], ◌∷◌, length, get_or, Option, Some, None, IsTrue, IsFalse}
 use Rattle.std.proofs.Common.{inl, inr, refl, sym, ap, subst, ◌∙◌, arith, if◌then◌else◌, eqb-true, ltb-true, ltb-false}
 use Rattle.std.specs.Prelude.{is_none, bytes_eq, nat_lt}
 use Rattle.std.specs.Option.{option_map_or}
 use Rattle.std.proofs.lemmas.Bool.{both_ways, cases_Bool, cond-true, cond-false, not-false, eqb-false}
 use Rattle.std.proofs.lemmas.Option.{none-some}
-use Rattle.std.proofs.lemmas.List.{get_or_past, get_or-set_same, get_or-set_other}
+use Rattle.std.proofs.lemmas.List.{get_or_past, get_or-set_other}
 use Rattle.std.proofs.lemmas.Slice.Eq.{bytes_eq-Decides}
 use Rattle.wire_lives.specs.declared.introductions.Introduction.{Introduction}
 use Rattle.wire_lives.specs.Readings.{introduction_of, life_in}
@@ -46,10 +46,13 @@ putting-keeps lives at put number life known =
 -- the other site was met
 pub record IsMet (own sites : ℕ) (lives : Lives) (i : Introduction) : Type 0 where
   pub as_many : i.sites ≡ sites
+  pub other : i.number ≡ own → ⊥
   pub same : IsFalse (is_another (life_of lives i.number) i.life)
+  pub own_known : IsFalse (is_none (life_of lives own))
 
-met-so : (a b c d : Bool) → ◌≡◌ {A = ℕ} (if not a then 3 else (if b then 2 else (if c then 1 else (if d then 5 else 0)))) 0 → IsTrue a × IsFalse c
-met-so true false false false e = (refl, refl)
+met-so : (a b c d : Bool) → ◌≡◌ {A = ℕ} (if not a then 3 else (if b then 2 else (if c then 1 else (if d then 5 else 0)))) 0 →
+    IsTrue a × (IsFalse b × (IsFalse c × IsFalse d))
+met-so true false false false e = (refl, (refl, (refl, refl)))
 met-so true false false true e = absurd (let bad : ⊥ = omega (arith, e) in bad)
 met-so true false true d e = absurd (let bad : ⊥ = omega (arith, e) in bad)
 met-so true true c d e = absurd (let bad : ⊥ = omega (arith, e) in bad)
@@ -58,7 +61,7 @@ met-so false b c d e = absurd (let bad : ⊥ = omega (arith, e) in bad)
 pub is-met : (own sites : ℕ) (lives : Lives) (i : Introduction) → verdict own sites lives i ≡ 0 → IsMet own sites lives i
 is-met own sites lives i e =
     let parts = met-so (i.sites == sites) (i.number == own) (is_another (life_of lives i.number) i.life) (is_none (life_of lives own)) e in
-    record { as_many = eqb-true i.sites sites parts.0; same = parts.1 }
+    record { as_many = eqb-true i.sites sites parts.0; other = eqb-false i.number own parts.1.0; same = parts.1.1.0; own_known = parts.1.1.1 }
 
 -- ===== One request
 

@@ -1,10 +1,10 @@
 -- Trails of a site that meets others.
-use Rattle.std.proofs.Common.{◌≡◌, ℕ, Bool, true, false, ◌||◌, not, List, [], ◌∷◌, filter, Option, Some, None, IsTrue, IsFalse, inl, inr, refl, sym, ap, subst, ◌∙◌}
+use Rattle.std.proofs.Common.{◌≡◌, ℕ, Bool, not, List, [], ◌∷◌, Some, IsTrue, IsFalse, inl, inr, sym, ap, subst, ◌∙◌}
 use Rattle.std.proofs.Common.{if◌then◌else◌}
-use Rattle.std.proofs.lemmas.Bool.{both_ways, cases_Bool, cond-true, cond-false, or_parts, or_left}
+use Rattle.std.proofs.lemmas.Bool.{cases_Bool, cond-true, cond-false, or_parts}
 use Rattle.tardis_base.specs.Plain.{Event, PlainMachine, Answers}
 use Rattle.plain_site.specs.Site.{Site}
-use Rattle.site_lives.specs.Lives.{Life, Lives, life_of, is_of_lives}
+use Rattle.site_lives.specs.Lives.{Life, life_of, is_of_lives}
 use Rattle.site_lives.specs.Acquainted.{Acquainted, about_lives, with_news, acquainted}
 use Rattle.site_lives.specs.Laws.{EachHasItsOwn, others, replies_to_others, SiteHasItsTrail, LivesStay}
 use Rattle.site_lives.proofs.Stays.{answer-keeps}
@@ -54,16 +54,16 @@ module _ (m : PlainMachine Site) where
   -- ===== The trail of the site
 
   module _ (e : Event) (es : List Event) (y : List ℕ) (ys : List (List ℕ)) where
-    out-events : IsTrue (is_of_lives e.1) → others (e ∷ es) ≡ others es
+    pub out-events : IsTrue (is_of_lives e.1) → others (e ∷ es) ≡ others es
     out-events t = ap (λ (b : Bool). if not b then e ∷ others es else others es) t
 
-    in-events : IsFalse (is_of_lives e.1) → others (e ∷ es) ≡ e ∷ others es
+    pub in-events : IsFalse (is_of_lives e.1) → others (e ∷ es) ≡ e ∷ others es
     in-events f = ap (λ (b : Bool). if not b then e ∷ others es else others es) f
 
-    out-replies : IsTrue (is_of_lives e.1) → replies_to_others (e ∷ es) (y ∷ ys) ≡ replies_to_others es ys
+    pub out-replies : IsTrue (is_of_lives e.1) → replies_to_others (e ∷ es) (y ∷ ys) ≡ replies_to_others es ys
     out-replies t = cond-true (is_of_lives e.1) (replies_to_others es ys) (y ∷ replies_to_others es ys) t
 
-    in-replies : IsFalse (is_of_lives e.1) → replies_to_others (e ∷ es) (y ∷ ys) ≡ y ∷ replies_to_others es ys
+    pub in-replies : IsFalse (is_of_lives e.1) → replies_to_others (e ∷ es) (y ∷ ys) ≡ y ∷ replies_to_others es ys
     in-replies f = cond-false (is_of_lives e.1) (replies_to_others es ys) (y ∷ replies_to_others es ys) f
 
     -- it isn't in the site's trail
