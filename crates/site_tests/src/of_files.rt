@@ -11,9 +11,10 @@ use crate::of_site_journal::CRASHES;
 use crate::of_tardisd_main::words_of;
 use crate::sites::keys;
 use crate::talks::{Talk, copied};
-use command_words::{DoorPlan, Place};
+use command_words::DaemonPlan;
 use disk_forms::{MemoryDisk, MemoryStore};
 use hub::{Connection, Ports, Ready};
+use site_peers::{Failure, Peer};
 use std::alloc::Global;
 use std::process::Abort;
 use std::random::RandomSource;
@@ -31,8 +32,9 @@ struct OneByOne<'a> {
 impl Ports for OneByOne<'_> {
     ghost seen = { λ p. None };
 
-    fn ready(&mut self, connections: &[Option<Connection>]) -> Ready {
+    fn ready(&mut self, connections: &[Option<Connection>], peers: &[Peer]) -> Ready {
         let _ = connections;
+        let _ = peers;
         let turn = self.turns;
         self.turns = turn.saturating_add(1);
         if turn == 0 {
@@ -74,6 +76,31 @@ impl Ports for OneByOne<'_> {
     fn close(&mut self, slot: usize) {
         let _ = slot;
     }
+
+    fn call_peer(&mut self, peer: usize) {
+        let _ = peer;
+    }
+
+    fn close_peer(&mut self, peer: usize) {
+        let _ = peer;
+    }
+
+    fn read_peer(&mut self, peer: usize, buf: &mut [u8]) -> usize {
+        let _ = peer;
+        let _ = buf;
+        0
+    }
+
+    fn write_peer(&mut self, peer: usize, bytes: &[u8]) -> usize {
+        let _ = peer;
+        let _ = bytes;
+        0
+    }
+
+    fn tell_failure(&mut self, peer: usize, why: Failure) {
+        let _ = peer;
+        let _ = why;
+    }
 }
 
 /// Copies a front of the bytes, as long as there is room.
@@ -96,19 +123,18 @@ struct OneDoor<'a> {
 impl<'a> Doors for OneDoor<'a> {
     type Ports = OneByOne<'a>;
 
-    ghost opens = { λ doors opened. Unit {0} };
+    ghost opens = { λ asked opened. Unit {0} };
 
-    fn open(&mut self, doors: &[DoorPlan<'_>]) -> Result<OneByOne<'a>, GateFault> {
-        let _ = doors;
+    fn open(&mut self, plan: &DaemonPlan<'_>) -> Result<OneByOne<'a>, GateFault> {
+        let _ = plan;
         match self.edge.take() {
             Some(edge) => Ok(edge),
             None => Err(GateFault::Refused),
         }
     }
 
-    fn announce(&mut self, place: Place, doors: &[DoorPlan<'_>], found: Option<FoundSite>) {
-        let _ = place;
-        let _ = doors;
+    fn announce(&mut self, plan: &DaemonPlan<'_>, found: Option<FoundSite>) {
+        let _ = plan;
         self.found = found;
     }
 }
@@ -222,18 +248,19 @@ fn found_in(
     (life.found, life.end)
 }
 
-/// Two groups in a file: as they are, without the last byte of the second, and with another first byte.
+/// Three groups in a file, of the site's life and of two commits: as they are, without the last byte of the third, and with another
+/// first byte.
 #[test]
 fn a_torn_group_is_left_out_and_a_damaged_file_is_told(rt: HostRuntime) {
     let mut bytes = after(&rt, rt.alloc(), ALONE, &[TWO_COMMITS], b"");
     let (found, _) = found_in(&rt, rt.alloc(), bytes.as_slice());
     let whole = found.expect(&rt, "a site");
-    assert!(rt; whole.known == 3 && whole.groups == 2 && !whole.is_torn && !whole.is_new);
+    assert!(rt; whole.known == 3 && whole.groups == 3 && !whole.is_torn && !whole.is_new);
     let last = (whole.bytes as usize).saturating_sub(1);
     *bytes.get_mut(last).expect(&rt, "a byte") = 0;
     let (found, _) = found_in(&rt, rt.alloc(), bytes.as_slice());
     let torn = found.expect(&rt, "a site");
-    assert!(rt; torn.known == 2 && torn.groups == 1 && torn.is_torn && !torn.is_new);
+    assert!(rt; torn.known == 2 && torn.groups == 2 && torn.is_torn && !torn.is_new);
     *bytes.get_mut(0).expect(&rt, "a byte") = b'x';
     let (found, end) = found_in(&rt, rt.alloc(), bytes.as_slice());
     assert!(rt; found.is_none() && end == DaemonEnd::File(FileFault::NotALog));
@@ -287,9 +314,9 @@ fn count_of_calls(rt: &(impl Abort + RandomSource), alloc: Global) -> u64 {
     panic!(rt; "a call fails each time")
 }
 
-/// A new file is synced, measured and read, filled and synced, named and synced: 7 calls. Each of the two groups is written and
-/// synced.
+/// A new file is synced, measured and read, filled and synced, named and synced: 7 calls. Each of the three groups, that of the site's
+/// life and those of the commits, is written and synced.
 #[test]
 fn what_was_told_is_there_whichever_call_failed(rt: HostRuntime) {
-    assert_eq!(rt; count_of_calls(&rt, rt.alloc()), 11);
+    assert_eq!(rt; count_of_calls(&rt, rt.alloc()), 13);
 }

@@ -1,13 +1,12 @@
 use crate::disks::store_of;
 use crate::sites::keys;
 use crate::talks::bytes_of;
-use command_words::{DoorKind, DoorPlan, Place};
+use command_words::{DaemonPlan, DoorKind, DoorPlan, Place};
 use hub::{End, MemoryPorts, Move, Seen};
 use std::alloc::Global;
-use std::hash::RandomState;
 use std::process::Abort;
 use std::random::RandomSource;
-use tardis_base::ByteList;
+use tardis_base::{ByteList, NoMemory};
 use tardis_io::MemorySink;
 use tardisd_main::{
     DaemonEnd, Doors, FileFault, FoundSite, GateFault, plan_of, serve_place, tardisd,
@@ -16,8 +15,8 @@ use tardisd_main::{
 /// The place of the site.
 const PLACE: Place = Place { sites: 3, site: 2 };
 
-/// Words of a server with two doors.
-const LINE: &str = "--site 2 --tidy --listen unix:s --peers unix:p --sites 3";
+/// Words of a server with two doors, that fetches from two peers.
+const LINE: &str = "--site 2 --tidy --listen unix:s --peers unix:p --sites 3 --peer unix:k --peer k:1 --every 60 --mode 0660 --idle 600";
 
 /// The words of a line.
 pub(crate) fn words_of(rt: &impl Abort, alloc: Global, line: &str) -> Vec<String> {
@@ -43,10 +42,26 @@ fn is_door(door: &DoorPlan<'_>, kind: DoorKind, address: &str) -> bool {
     door.kind == kind && door.address == address
 }
 
-/// Whether the words are a plan to collect states at the place, and to listen at the doors.
+/// Whether the peers are those at `unix:k` and `k:1`.
+fn are_peers(peers: &[&str]) -> bool {
+    match peers {
+        [first, second] => *first == "unix:k" && *second == "k:1",
+        _ => false,
+    }
+}
+
+/// Whether a plan is to collect states at the place, to listen at the doors and to fetch from the peers.
+fn is_planned(plan: &DaemonPlan<'_>) -> bool {
+    let is_fetching = are_peers(plan.peers.as_slice()) && plan.every == 60;
+    let is_of_sockets = plan.mode == 0o660 && plan.idle == Some(600);
+    let is_of_site = plan.place == PLACE && plan.tidy;
+    are_these(plan.doors.as_slice()) && is_of_site && is_fetching && is_of_sockets
+}
+
+/// Whether the words are such a plan.
 fn are_planned(alloc: Global, words: &[String]) -> bool {
     match plan_of(alloc, words) {
-        Ok(plan) => are_these(plan.doors.as_slice()) && plan.place == PLACE && plan.tidy,
+        Ok(plan) => is_planned(&plan),
         Err(_) => false,
     }
 }
@@ -59,12 +74,28 @@ fn are_refused(alloc: Global, words: &[String]) -> bool {
     }
 }
 
+/// Words that have no form: without a door; an option that speaks of something which isn't there; a mode or a number of no range; a
+/// peer without a path; and a sixteenth peer.
+const UNPLANNED: [&str; 9] = [
+    "--sites 2",
+    "--listen unix:s --every 5",
+    "--listen h:1 --mode 0600",
+    "--listen unix:s --mode 0680",
+    "--listen unix:s --mode 00600",
+    "--listen unix:s --idle 0",
+    "--listen unix:s --peer k:1 --every 86401",
+    "--listen unix:s --peer unix:",
+    "--listen h:1 --peer a:1 --peer a:1 --peer a:1 --peer a:1 --peer a:1 --peer a:1 --peer a:1 --peer a:1 --peer a:1 --peer a:1 --peer a:1 --peer a:1 --peer a:1 --peer a:1 --peer a:1 --peer a:1",
+];
+
 #[test]
 fn words_are_a_plan_or_refused(rt: HostRuntime) {
     let words = words_of(&rt, rt.alloc(), LINE);
     assert!(rt; are_planned(rt.alloc(), words.as_slice()));
-    let words = words_of(&rt, rt.alloc(), "--sites 2");
-    assert!(rt; are_refused(rt.alloc(), words.as_slice()));
+    for line in UNPLANNED {
+        let words = words_of(&rt, rt.alloc(), line);
+        assert!(rt; are_refused(rt.alloc(), words.as_slice()));
+    }
 }
 
 /// Doors behind which nobody is, which know whether they were opened, and announced for the place.
@@ -78,16 +109,15 @@ struct NotingDoors {
 impl Doors for NotingDoors {
     type Ports = MemoryPorts;
 
-    ghost opens = { λ doors opened. Unit {0} };
+    ghost opens = { λ asked opened. Unit {0} };
 
-    fn open(&mut self, doors: &[DoorPlan<'_>]) -> Result<MemoryPorts, GateFault> {
-        self.is_opened = are_these(doors);
+    fn open(&mut self, plan: &DaemonPlan<'_>) -> Result<MemoryPorts, GateFault> {
+        self.is_opened = is_planned(plan);
         Ok(MemoryPorts::new(self.alloc, Vec::new(self.alloc)))
     }
 
-    fn announce(&mut self, place: Place, doors: &[DoorPlan<'_>], found: Option<FoundSite>) {
-        let is_here = place == PLACE && are_these(doors);
-        self.is_announced = self.is_opened && is_here && found.is_none();
+    fn announce(&mut self, plan: &DaemonPlan<'_>, found: Option<FoundSite>) {
+        self.is_announced = self.is_opened && is_planned(plan) && found.is_none();
     }
 }
 
@@ -199,10 +229,23 @@ fn moves(rt: &impl Abort, alloc: Global) -> Vec<Move> {
 }
 
 /// Whether a site at the place serves this edge until it says stop.
-fn is_served(alloc: Global, keys: RandomState, ports: &mut MemoryPorts) -> bool {
-    match serve_place(alloc, keys, PLACE, true, ports) {
-        Ok(end) => end == End::Stopped,
+fn is_served(
+    rt: &(impl Abort + RandomSource),
+    alloc: Global,
+    ports: &mut MemoryPorts,
+) -> bool {
+    let words = words_of(rt, alloc, LINE);
+    match plan_of(alloc, words.as_slice()) {
+        Ok(plan) => is_stopped(serve_place(alloc, keys(rt), [7; 16], &plan, ports)),
         Err(_) => false,
+    }
+}
+
+/// Whether the edge said stop.
+fn is_stopped(end: Result<End, NoMemory>) -> bool {
+    match end {
+        Ok(end) => end == End::Stopped,
+        Err(NoMemory) => false,
     }
 }
 
@@ -224,7 +267,7 @@ fn count_told(rt: &impl Abort, alloc: Global, ports: &MemoryPorts) -> usize {
 #[test]
 fn a_site_is_served_at_its_place(rt: HostRuntime) {
     let mut ports = MemoryPorts::new(rt.alloc(), moves(&rt, rt.alloc()));
-    assert!(rt; is_served(rt.alloc(), keys(&rt), &mut ports));
+    assert!(rt; is_served(&rt, rt.alloc(), &mut ports));
     assert_eq!(rt; count_told(&rt, rt.alloc(), &ports), 1);
     drop(ports);
 }
@@ -255,7 +298,7 @@ fn count_comers(rt: &impl Abort, ports: &MemoryPorts) -> (usize, usize) {
 #[test]
 fn the_257th_connection_waits(rt: HostRuntime) {
     let mut ports = MemoryPorts::new(rt.alloc(), comers(&rt, rt.alloc(), 257));
-    assert!(rt; is_served(rt.alloc(), keys(&rt), &mut ports));
+    assert!(rt; is_served(&rt, rt.alloc(), &mut ports));
     assert!(rt; count_comers(&rt, &ports) == (256, 0));
     drop(ports);
 }
