@@ -1,7 +1,8 @@
 -- Each event leads to a site that follows, and what lasts of it is seen between the two.
-use Rattle.std.proofs.Common.{◌≡◌, Option, Some, None, IsTrue, refl, sym, subst, ◌∙◌}
-use Rattle.std.specs.Prelude.{option_to_list, OnOk, OnErr, Result, Ok, Err}
+use Rattle.std.proofs.Common.{◌≡◌, Option, Some, None, IsTrue, IsFalse, refl, sym, ap, subst, ◌∙◌}
+use Rattle.std.specs.Prelude.{option_to_list, option_map, OnOk, OnErr, Result, Ok, Err}
 use Rattle.std.specs.Option.{option_and_then}
+use Rattle.std.proofs.lemmas.Bool.{cond-false}
 use Rattle.std.proofs.lemmas.Option.{none-some}
 use Rattle.tardis_base.specs.declared.faults.NoMemory.{NoMemory}
 use Rattle.tardis_base.specs.declared.requests.Request.{Request}
@@ -15,7 +16,11 @@ use Rattle.plain_site.specs.Answers.{refused, given}
 use Rattle.plain_site.specs.Step.{step, site_machine}
 use Rattle.plain_site.specs.Sound.{IsSound}
 use Rattle.plain_site.specs.Rest.{Lasting, at_rest, replay, lasting_of, lasting_of_event, lasting_between}
-use Rattle.plain_site.specs.RestSpellings.{is_lasting}
+use Rattle.plain_site.specs.RestSpellings.{is_lasting, all_spelling}
+use Rattle.site_lives.specs.Lives.{is_of_lives}
+use Rattle.site_lives.specs.Acquainted.{Acquainted, about_lives}
+use Rattle.site_lives.specs.Things.{LastingThing, OfSite, OfLives, all_spellings}
+use Rattle.site_lives.specs.Bytes.{lasting_bytes}
 use Rattle.rest_laws.proofs.Adds.{requests-add-what-lasts}
 use Rattle.rest_laws.proofs.Seen.{nothing-between, what-lasts-is-seen}
 use Rattle.rest_laws.proofs.Valid.{what-lasts-is-spelled}
@@ -62,3 +67,20 @@ stands-behind old new event (Ok done) before step same =
 stands-behind old new event (Err fault) before step same =
     let now = same before.site (before.stands, before.sound) in
     record { site = before.site; stands = now.0; sound = now.1 }
+
+-- what is said where a call answers Ok, said another way
+pub on-ok : {T E : Type 0} (r : Result T E) (P Q : Type 0) → OnOk r P → (P → Q) → OnOk r Q
+on-ok (Ok t) P Q p f = f p
+on-ok (Err e) P Q p f = p
+
+-- what lasts of a request that isn't about lives
+pub site-bytes : (a : Acquainted) (event : Event) → IsFalse (is_of_lives event.1) →
+    all_spelling (option_to_list (lasting_of_event a.site event)) ≡ lasting_bytes a event
+site-bytes a event f =
+    same (lasting_of_event a.site event)
+    ∙ ap (λ (o : Option LastingThing). all_spellings (option_to_list o))
+    (sym (cond-false (is_of_lives event.1) (option_map OfLives (about_lives a event.1).1) (option_map OfSite (lasting_of_event a.site event)) f))
+  where
+    same : (o : Option Lasting) → all_spelling (option_to_list o) ≡ all_spellings (option_to_list (option_map OfSite o))
+    same None = refl
+    same (Some l) = refl

@@ -9,6 +9,7 @@ use Rattle.std.proofs.lemmas.Option.{none-some}
 use Rattle.tardis_base.specs.declared.faults.NoMemory.{NoMemory}
 use Rattle.tardis_base.specs.declared.records.Record.{Record}
 use Rattle.tardis_base.specs.declared.records.Consent.{Consent}
+use Rattle.tardis_base.specs.declared.records.Limits.{Limits}
 use Rattle.tardis_base.specs.declared.records.Item.TheVariants.{State, Promise}
 use Rattle.tardis_base.specs.Valid.{is_u32}
 use Rattle.wire_item.specs.Fronts.{Front, front_of_code}
@@ -21,17 +22,23 @@ use Rattle.ceiling_book.specs.Book.{sessions_of}
 use Rattle.plain_site.specs.Site.{Site, Txn}
 use Rattle.plain_site.specs.Sound.{IsSound}
 use Rattle.plain_site.specs.Commits.{with_record}
-use Rattle.plain_site.specs.Rest.{Lasting, News, Collection, at_rest, with_promise, with_lasting, replay, fits, all_fit, collected_by}
-use Rattle.plain_site.specs.RestSpellings.{is_lasting, lasting_spelling, lasting_rows, lasting_front, are_lasting, all_spelling}
-use Rattle.rest_laws.proofs.Spelled.{reads-lasting}
+use Rattle.plain_site.specs.Rest.{Lasting, News, Collection, at_rest, with_promise, with_lasting, fits, all_fit, collected_by}
+use Rattle.plain_site.specs.RestSpellings.{is_lasting}
 use Rattle.rest_laws.proofs.Fitting.{what-fits-keeps-sound}
+use Rattle.site_lives.specs.declared.lives.NewLife.{NewLife}
+use Rattle.site_lives.specs.Lives.{Lives, with_life, fits_life}
+use Rattle.site_lives.specs.Acquainted.{Acquainted}
+use Rattle.site_lives.specs.Things.{LastingThing, OfSite, OfLives, all_at_rest, with_thing, fits_thing, replay_things, all_things_fit, is_thing, thing_spelling}
+use Rattle.site_lives.specs.Things.{thing_rows, thing_front, are_things, all_spellings}
+use Rattle.site_lives.specs.Bytes.{TakesBack}
+use Rattle.site_lives.proofs.Spelled.{reads-thing}
 use Rattle.session_core.specs.Core.{Core}
 use Rattle.session_core.specs.Stands.{CoreStands, StandsForSite}
 use Rattle.session_core.specs.Machine.{SiteStands}
 use Rattle.session_core.specs.Rests.{is_quiet, KeepsSound, Collects}
 use Rattle.session_core.specs.Rests.{TakenBy as TakenThere, TakesBack as TakesBackThere}
-use Rattle.rest_site.specs.Bytes.{TakesBack}
-use Rattle.rest_site.specs.Takings.{lasting_of, state_front, promise_front, collection_front, IsRead, TakenBy, TakesThing, Leads}
+use Rattle.rest_site.specs.Stands.{CoreWithLives, AcquaintedStands, and_lives}
+use Rattle.rest_site.specs.Takings.{lasting_of, state_front, promise_front, collection_front, new_life_front, IsRead, TakenBy, TakesThing, Leads}
 use Rattle.rest_site.specs.declared.things.Thing.{Thing}
 
 -- ===== At rest
@@ -41,6 +48,12 @@ still-rests : (site : Site) (l : Lasting) → at_rest site ≡ site → at_rest 
 still-rests site (News (State r)) rests = ap (with_record r) rests
 still-rests site (News (Promise c)) rests = ap (with_promise c) rests
 still-rests site (Collection count) rests = ap (with_lasting (Collection count)) rests
+
+thing-still-rests : (a : Acquainted) (t : LastingThing) → all_at_rest a ≡ a → all_at_rest (with_thing t a) ≡ with_thing t a
+thing-still-rests a (OfSite l) rests =
+    ap (λ (s : Site). record { site = s; lives = a.lives }) (still-rests a.site l (ap (λ (b : Acquainted). b.site) rests))
+thing-still-rests a (OfLives new) rests =
+    ap (λ (s : Site). record { site = s; lives = with_life new.number new.life a.lives }) (ap (λ (b : Acquainted). b.site) rests)
 
 pub none-there : {A : Type 0} (xs : List A) → length xs ≡ 0 → xs ≡ []
 none-there [] e = refl
@@ -73,6 +86,9 @@ quiet-rests core site quiet (stands, sound) =
     ∙ (ap (λ (ts : List (ℕ × Txn)). record site { txns = ts; waiting = [] }) (sym ended)
     ∙ ap (λ (rs : List Record). record site { waiting = rs }) (sym settled))
 
+pub all-quiet-rests : (held : CoreWithLives) (a : Acquainted) → is_quiet held.core ≡ true → AcquaintedStands held a → all_at_rest a ≡ a
+all-quiet-rests held a quiet stands = ap (λ (s : Site). record { site = s; lives = a.lives }) (quiet-rests held.core a.site quiet stands.0)
+
 -- and one at rest is quiet
 pub rests-quiet : (core : Core) (site : Site) → CoreStands core site → at_rest site ≡ site → is_quiet core ≡ true
 rests-quiet core site stands rests =
@@ -94,185 +110,216 @@ quiet-keeps-sound core c quiet valid site both fit =
 
 -- ===== One thing
 
-module _ (site behind : Site) (all left : List ℕ) (l : Lasting) (read : lasting_front all ≡ Some (l, left)) where
+module _ (a behind : Acquainted) (all left : List ℕ) (t : LastingThing) (read : thing_front all ≡ Some (t, left)) where
   -- what takes back all takes this first, where it fits, and then what is left
-  starts : (ls : List Lasting) → IsTrue (are_lasting ls) → all ≡ all_spelling ls → at_rest site ≡ site → IsTrue (all_fit site ls) → behind ≡ replay ls site →
-      IsTrue (fits site l) × TakesBack (with_lasting l site) left behind
-  starts [] are spelled rests fit replayed = absurd (none-some (l, left) (sym (ap lasting_front spelled) ∙ read))
+  starts : (ts : List LastingThing) → IsTrue (are_things ts) → all ≡ all_spellings ts → all_at_rest a ≡ a → IsTrue (all_things_fit a ts) →
+      behind ≡ replay_things ts a → IsTrue (fits_thing a t) × TakesBack (with_thing t a) left behind
+  starts [] are spelled rests fit replayed = absurd (none-some (t, left) (sym (ap thing_front spelled) ∙ read))
   starts (m ∷ ms) are spelled rests fit replayed =
-      let valid = and_parts (is_lasting m) (are_lasting ms) are in
-      let parts = and_parts (fits site m) (all_fit (with_lasting m site) ms) fit in
-      let here : lasting_front all ≡ Some (m, all_spelling ms) = ap lasting_front spelled ∙ reads-lasting.back m (all_spelling ms) valid.0 in
-      let same = some-parts m l (all_spelling ms) left (sym here ∙ read) in (
-        subst (λ (k : Lasting). IsTrue (fits site k)) same.0 parts.0,
-        subst (λ (k : Lasting). TakesBack (with_lasting k site) left behind) same.0 (record {
+      let valid = and_parts (is_thing m) (are_things ms) are in
+      let parts = and_parts (fits_thing a m) (all_things_fit (with_thing m a) ms) fit in
+      let here : thing_front all ≡ Some (m, all_spellings ms) = ap thing_front spelled ∙ reads-thing.back m (all_spellings ms) valid.0 in
+      let same = some-parts m t (all_spellings ms) left (sym here ∙ read) in (
+        subst (λ (k : LastingThing). IsTrue (fits_thing a k)) same.0 parts.0,
+        subst (λ (k : LastingThing). TakesBack (with_thing k a) left behind) same.0 (record {
           things = ms;
           are = valid.1;
           spelled = sym same.1;
-          rests = still-rests site m rests;
+          rests = thing-still-rests a m rests;
           fit = parts.1;
           replayed = replayed;
         }),
       )
 
-  pub goes-on : TakesBack site all behind → IsTrue (fits site l) × TakesBack (with_lasting l site) left behind
+  pub goes-on : TakesBack a all behind → IsTrue (fits_thing a t) × TakesBack (with_thing t a) left behind
   goes-on took = starts took.things took.are took.spelled took.rests took.fit took.replayed
 
-  comes-from : at_rest site ≡ site → IsTrue (fits site l) → TakesBack (with_lasting l site) left behind → TakesBack site all behind
+  comes-from : all_at_rest a ≡ a → IsTrue (fits_thing a t) → TakesBack (with_thing t a) left behind → TakesBack a all behind
   comes-from rests fit took =
-      let is = reads-lasting.only all l left read in
+      let is = reads-thing.only all t left read in
       record {
-        things = l ∷ took.things;
-        are = and_from (is_lasting l) (are_lasting took.things) is.0 took.are;
-        spelled = is.1 ∙ ap (λ (bs : List ℕ). lasting_spelling l ++ bs) took.spelled;
+        things = t ∷ took.things;
+        are = and_from (is_thing t) (are_things took.things) is.0 took.are;
+        spelled = is.1 ∙ ap (λ (bs : List ℕ). thing_spelling t ++ bs) took.spelled;
         rests = rests;
-        fit = and_from (fits site l) (all_fit (with_lasting l site) took.things) fit took.fit;
+        fit = and_from (fits_thing a t) (all_things_fit (with_thing t a) took.things) fit took.fit;
         replayed = took.replayed;
       }
 
   -- what doesn't fit can't be taken back
-  pub unfit-refused : IsFalse (fits site l) → TakesBack site all behind → ⊥
-  unfit-refused unfit took = both_ways (fits site l) unfit (goes-on took).0
+  pub unfit-refused : IsFalse (fits_thing a t) → TakesBack a all behind → ⊥
+  unfit-refused unfit took = both_ways (fits_thing a t) unfit (goes-on took).0
 
 -- where nothing is read though there are bytes, they can't be taken back
-pub unread-refused : (site behind : Site) (all : List ℕ) → lasting_front all ≡ None → 0 < length all → TakesBack site all behind → ⊥
-unread-refused site behind all none some took = go took.things took.are took.spelled
+pub unread-refused : (a behind : Acquainted) (all : List ℕ) → thing_front all ≡ None → 0 < length all → TakesBack a all behind → ⊥
+unread-refused a behind all none some took = go took.things took.are took.spelled
   where
-    go : (ls : List Lasting) → IsTrue (are_lasting ls) → all ≡ all_spelling ls → ⊥
+    go : (ts : List LastingThing) → IsTrue (are_things ts) → all ≡ all_spellings ts → ⊥
     go [] are spelled = let e = ap length spelled in omega (arith, some, e)
     go (m ∷ ms) are spelled =
-        let valid = and_parts (is_lasting m) (are_lasting ms) are in
-        none-some (m, all_spelling ms) (sym none ∙ (ap lasting_front spelled ∙ reads-lasting.back m (all_spelling ms) valid.0))
+        let valid = and_parts (is_thing m) (are_things ms) are in
+        none-some (m, all_spellings ms) (sym none ∙ (ap thing_front spelled ∙ reads-thing.back m (all_spellings ms) valid.0))
 
 -- what is read is valid, and takes some bytes
-pub read-valid : (all left : List ℕ) (l : Lasting) → lasting_front all ≡ Some (l, left) → IsTrue (is_lasting l)
-read-valid all left l read = (reads-lasting.only all l left read).0
+pub read-valid : (all left : List ℕ) (t : LastingThing) → thing_front all ≡ Some (t, left) → IsTrue (is_thing t)
+read-valid all left t read = (reads-thing.only all t left read).0
 
-pub read-shorter : (all left : List ℕ) (l : Lasting) → lasting_front all ≡ Some (l, left) → length left < length all
-read-shorter all left l read = go l (ap length (reads-lasting.only all l left read).1)
+pub read-shorter : (all left : List ℕ) (t : LastingThing) → thing_front all ≡ Some (t, left) → length left < length all
+read-shorter all left t read = go t (ap length (reads-thing.only all t left read).1)
   where
-    go : (m : Lasting) → length all ≡ length (lasting_spelling m ++ left) → length left < length all
-    go (News (State r)) e = omega (arith, e, length-append (lasting_spelling (News (State r))) left)
-    go (News (Promise c)) e = omega (arith, e, length-append (lasting_spelling (News (Promise c))) left)
-    go (Collection n) e = omega (arith, e, length-append (lasting_spelling (Collection n)) left)
+    go : (m : LastingThing) → length all ≡ length (thing_spelling m ++ left) → length left < length all
+    go (OfSite (News (State r))) e = omega (arith, e, length-append (thing_spelling (OfSite (News (State r)))) left)
+    go (OfSite (News (Promise c))) e = omega (arith, e, length-append (thing_spelling (OfSite (News (Promise c)))) left)
+    go (OfSite (Collection n)) e = omega (arith, e, length-append (thing_spelling (OfSite (Collection n))) left)
+    go (OfLives new) e = omega (arith, e, length-append (thing_spelling (OfLives new)) left)
 
 -- ===== Taken by the site in memory
 
-pub thing-taken : (old new : Core) (l : Lasting) (result : Result Bool NoMemory) → TakesBackThere old new l result → TakesThing old new l result
-thing-taken old new l result took = λ site stands. go site result (took site stands)
-  where
-    go : (site : Site) (taken : Result Bool NoMemory) → TakenThere new l site taken → TakenBy new l site taken
-    go site (Ok true) h = h
-    go site (Ok false) h = (h.0, record { site = site; stands = h.1.0; sound = h.1.1 })
-    go site (Err fault) h = record { site = site; stands = h.0; sound = h.1 }
+module _ (old new : Core) (lives : Lives) where
+  pub thing-taken : (l : Lasting) (result : Result Bool NoMemory) → TakesBackThere old new l result →
+      TakesThing (and_lives old lives) (and_lives new lives) (OfSite l) result
+  thing-taken l result took = λ a stands. go a stands.1 result (took a.site stands.0)
+    where
+      go : (a : Acquainted) → lives ≡ a.lives → (taken : Result Bool NoMemory) → TakenThere new l a.site taken →
+          TakenBy (and_lives new lives) (OfSite l) a taken
+      go a same (Ok true) h = (h.0, (h.1, same))
+      go a same (Ok false) h = (h.0, record { site = a.site; stands = h.1.0; sound = h.1.1 })
+      go a same (Err fault) h = record { site = a.site; stands = h.0; sound = h.1 }
 
--- as many were collected as there were to be, so it fits, or they were fewer
-pub collection-taken : (old new : Core) (count told : ℕ) → IsTrue (is_lasting (Collection count)) → Collects old new count told →
-    TakesThing old new (Collection count) (Ok (told == count))
-collection-taken old new count told valid collects = λ site stands.
-    let both = collects site stands in
-    let least = (and_parts (is_u32 count) (nat_le 1 count) valid).1 in
-    elim (cases_Bool (told == count)) [
-      | inl t ↦ subst (λ (b : Bool). TakenBy new (Collection count) site (Ok b)) (sym t) (
-        and_from (nat_le 1 count) (collected_by count site == count) least (eq-eqb (collected_by count site) count (sym both.1 ∙ eqb-true told count t)),
-        both.0,
-      )
-      | inr f ↦ subst (λ (b : Bool). TakenBy new (Collection count) site (Ok b)) (sym f) (
-        and_right (nat_le 1 count) (collected_by count site == count) (ap (λ n. n == count) (sym both.1) ∙ f),
-        record { site = with_lasting (Collection count) site; stands = both.0.0; sound = both.0.1 },
-      )
-    ]
+  -- as many were collected as there were to be, so it fits, or they were fewer
+  pub collection-taken : (count told : ℕ) → IsTrue (is_lasting (Collection count)) → Collects old new count told →
+      TakesThing (and_lives old lives) (and_lives new lives) (OfSite (Collection count)) (Ok (told == count))
+  collection-taken count told valid collects = λ a stands.
+      let both = collects a.site stands.0 in
+      let least = (and_parts (is_u32 count) (nat_le 1 count) valid).1 in
+      elim (cases_Bool (told == count)) [
+        | inl t ↦ subst (λ (b : Bool). TakenBy (and_lives new lives) (OfSite (Collection count)) a (Ok b)) (sym t) (
+          and_from (nat_le 1 count) (collected_by count a.site == count) least (eq-eqb (collected_by count a.site) count (sym both.1 ∙ eqb-true told count t)),
+          (both.0, stands.1),
+        )
+        | inr f ↦ subst (λ (b : Bool). TakenBy (and_lives new lives) (OfSite (Collection count)) a (Ok b)) (sym f) (
+          and_right (nat_le 1 count) (collected_by count a.site == count) (ap (λ n. n == count) (sym both.1) ∙ f),
+          record { site = with_lasting (Collection count) a.site; stands = both.0.0; sound = both.0.1 },
+        )
+      ]
+
+-- a life was put where it fits, among so many sites
+module _ (core : Core) (old new : Lives) (own sites : ℕ) (life : NewLife) (number : own ≡ core.book.own) (many : sites ≡ core.store.table.limits.sites) where
+  fits-there : (a : Acquainted) → AcquaintedStands (and_lives core old) a → fits_life own sites old life ≡ fits_thing a (OfLives life)
+  fits-there a stands =
+      ap (λ n. fits_life n sites old life) (number ∙ stands.0.0.own)
+      ∙ (ap (λ m. fits_life a.site.own m old life) (many ∙ ap (λ (l : Limits). l.sites) stands.0.0.limits)
+      ∙ ap (λ ls. fits_life a.site.own a.site.limits.sites ls life) stands.1)
+
+  pub life-taken : IsTrue (fits_life own sites old life) → new ≡ with_life life.number life.life old →
+      TakesThing (and_lives core old) (and_lives core new) (OfLives life) (Ok true)
+  life-taken fit is = λ a stands.
+      (sym (fits-there a stands) ∙ fit, (stands.0, is ∙ ap (with_life life.number life.life) stands.1))
+
+  pub life-refused : IsFalse (fits_life own sites old life) → TakesThing (and_lives core old) (and_lives core new) (OfLives life) (Ok false)
+  life-refused unfit = λ a stands.
+      (sym (fits-there a stands) ∙ unfit, record { site = a.site; stands = stands.0.0; sound = stands.0.1 })
 
 -- ===== Read
 
 -- what stands behind the code
 pub coded : (old mid left : List ℕ) (code : ℕ) (result : Option (Result Thing NoMemory)) → u8_front old ≡ Some (code, mid) →
-    IsRead (front_of_code code lasting_rows mid) result left → IsRead (lasting_front old) result left
+    IsRead (front_of_code code thing_rows mid) result left → IsRead (thing_front old) result left
 coded old mid left code result e read =
-    subst (λ (o : Option (Lasting × List ℕ)). IsRead o result left) (sym (code-read lasting_rows old code mid e)) read
+    subst (λ (o : Option (LastingThing × List ℕ)). IsRead o result left) (sym (code-read thing_rows old code mid e)) read
 
 -- an answer that is None
-pub read-none : (o : Option (Lasting × List ℕ)) (result : Option (Result Thing NoMemory)) (left : List ℕ) → result ≡ None → o ≡ None → IsRead o result left
+pub read-none : (o : Option (LastingThing × List ℕ)) (result : Option (Result Thing NoMemory)) (left : List ℕ) → result ≡ None → o ≡ None → IsRead o result left
 read-none o result left e none = subst (λ (r : Option (Result Thing NoMemory)). IsRead o r left) (sym e) none
 
 -- no code
-pub uncoded : (old : List ℕ) → u8_front old ≡ None → lasting_front old ≡ None
-uncoded old e = code-none lasting_rows old refl e
+pub uncoded : (old : List ℕ) → u8_front old ≡ None → thing_front old ≡ None
+uncoded old e = code-none thing_rows old refl e
 
 -- a row of another code is passed
-passed : (n : ℕ) (front : Front Lasting) (code : ℕ) (rows : List (ℕ × Front Lasting)) (bytes : List ℕ) → (n == code) ≡ false →
+passed : (n : ℕ) (front : Front LastingThing) (code : ℕ) (rows : List (ℕ × Front LastingThing)) (bytes : List ℕ) → (n == code) ≡ false →
     front_of_code code ((n, front) ∷ rows) bytes ≡ front_of_code code rows bytes
 passed n front code rows bytes other = ap (λ (b : Bool). (if b then front else front_of_code code rows) bytes) other
 
 -- a code of none of them
-pub code-far : (code : ℕ) (bytes : List ℕ) → (code ≡ 1 → ⊥) → (code ≡ 2 → ⊥) → (code ≡ 3 → ⊥) → front_of_code code lasting_rows bytes ≡ None
-code-far code bytes one two three =
+pub code-far : (code : ℕ) (bytes : List ℕ) → (code ≡ 1 → ⊥) → (code ≡ 2 → ⊥) → (code ≡ 3 → ⊥) → (code ≡ 4 → ⊥) →
+    front_of_code code thing_rows bytes ≡ None
+code-far code bytes one two three four =
     let first : (1 == code) ≡ false = ne_eqb 1 code (λ e. one (sym e)) in
     let second : (2 == code) ≡ false = ne_eqb 2 code (λ e. two (sym e)) in
     let third : (3 == code) ≡ false = ne_eqb 3 code (λ e. three (sym e)) in
-    passed 1 state_front code ((2, promise_front) ∷ (3, collection_front) ∷ []) bytes first
-    ∙ (passed 2 promise_front code ((3, collection_front) ∷ []) bytes second ∙ passed 3 collection_front code [] bytes third)
+    let fourth : (4 == code) ≡ false = ne_eqb 4 code (λ e. four (sym e)) in
+    passed 1 state_front code ((2, promise_front) ∷ (3, collection_front) ∷ (4, new_life_front) ∷ []) bytes first
+    ∙ (passed 2 promise_front code ((3, collection_front) ∷ (4, new_life_front) ∷ []) bytes second
+    ∙ (passed 3 collection_front code ((4, new_life_front) ∷ []) bytes third ∙ passed 4 new_life_front code [] bytes fourth))
 
 -- the thing that was read
-pub front-of-thing : (all left : List ℕ) (thing : Thing) → IsRead (lasting_front all) (Some (Ok thing)) left → lasting_front all ≡ Some (lasting_of thing, left)
-front-of-thing all left thing read = read.1 ∙ ap (λ (l : Lasting). Some (l, left)) (sym read.2)
+pub front-of-thing : (all left : List ℕ) (thing : Thing) → IsRead (thing_front all) (Some (Ok thing)) left → thing_front all ≡ Some (lasting_of thing, left)
+front-of-thing all left thing read = read.1 ∙ ap (λ (t : LastingThing). Some (t, left)) (sym read.2)
 
 -- ===== One after another
 
 -- it was taken
-pub thing-leads : (old new : Core) (all left : List ℕ) (l : Lasting) → lasting_front all ≡ Some (l, left) → TakesThing old new l (Ok true) →
+pub thing-leads : (old new : CoreWithLives) (all left : List ℕ) (t : LastingThing) → thing_front all ≡ Some (t, left) → TakesThing old new t (Ok true) →
     Leads old new all left
-thing-leads old new all left l read took = λ site stands rests.
-    let taken = took site stands in (
-      with_lasting l site,
+thing-leads old new all left t read took = λ a stands rests.
+    let taken = took a stands in (
+      with_thing t a,
       taken.1,
-      still-rests site l rests,
+      thing-still-rests a t rests,
       λ behind. (
-        (λ t. (goes-on site behind all left l read t).1),
-        (λ t. comes-from site behind all left l read rests taken.0 t),
+        (λ b. (goes-on a behind all left t read b).1),
+        (λ b. comes-from a behind all left t read rests taken.0 b),
       ),
     )
 
 -- nothing was taken yet
-pub nothing-leads : (core : Core) (all : List ℕ) → Leads core core all all
-nothing-leads core all = λ site stands rests. (site, stands, rests, λ behind. ((λ t. t), (λ t. t)))
+pub nothing-leads : (held : CoreWithLives) (all : List ℕ) → Leads held held all all
+nothing-leads held all = λ a stands rests. (a, stands, rests, λ behind. ((λ b. b), (λ b. b)))
 
 -- and one more
-pub leads-on : (old between new : Core) (all some left : List ℕ) → Leads old between all some → Leads between new some left → Leads old new all left
-leads-on old between new all some left first second = λ site stands rests.
-    let to = first site stands rests in
+pub leads-on : (old between new : CoreWithLives) (all some left : List ℕ) → Leads old between all some → Leads between new some left → Leads old new all left
+leads-on old between new all some left first second = λ a stands rests.
+    let to = first a stands rests in
     let last = second to.0 to.1 to.2 in (
       last.0,
       last.1,
       last.2,
       λ behind. (
-        (λ t. (last.3 behind).0 ((to.3 behind).0 t)),
-        (λ t. (to.3 behind).1 ((last.3 behind).1 t)),
+        (λ b. (last.3 behind).0 ((to.3 behind).0 b)),
+        (λ b. (to.3 behind).1 ((last.3 behind).1 b)),
       ),
     )
 
 -- it was taken, so the site is quiet still
-pub thing-quiet : (old new : Core) (l : Lasting) → is_quiet old ≡ true → StandsForSite old → TakesThing old new l (Ok true) → is_quiet new ≡ true
-thing-quiet old new l quiet before took =
-    let both : SiteStands old before.site = (before.stands, before.sound) in
-    rests-quiet new (with_lasting l before.site) (took before.site both).1.0 (still-rests before.site l (quiet-rests old before.site quiet both))
+pub thing-quiet : (old new : CoreWithLives) (t : LastingThing) → is_quiet old.core ≡ true → StandsForSite old.core → TakesThing old new t (Ok true) →
+    is_quiet new.core ≡ true
+thing-quiet old new t quiet before took =
+    let a : Acquainted = record { site = before.site; lives = old.lives } in
+    let stands : AcquaintedStands old a = ((before.stands, before.sound), refl) in
+    rests-quiet new.core (with_thing t a).site (took a stands).1.0.0
+    (ap (λ (b : Acquainted). b.site) (thing-still-rests a t (all-quiet-rests old a quiet stands)))
 
 -- whatever came of it, it stands for a sound site
-pub thing-stands : (old new : Core) (l : Lasting) (result : Result Bool NoMemory) → StandsForSite old → TakesThing old new l result → StandsForSite new
-thing-stands old new l result before took = go result (took before.site (before.stands, before.sound))
+pub thing-stands : (old new : CoreWithLives) (t : LastingThing) (result : Result Bool NoMemory) → StandsForSite old.core → TakesThing old new t result →
+    StandsForSite new.core
+thing-stands old new t result before took = go result (took a ((before.stands, before.sound), refl))
   where
-    go : (taken : Result Bool NoMemory) → TakenBy new l before.site taken → StandsForSite new
-    go (Ok true) h = record { site = with_lasting l before.site; stands = h.1.0; sound = h.1.1 }
+    a : Acquainted
+    a = record { site = before.site; lives = old.lives }
+
+    go : (taken : Result Bool NoMemory) → TakenBy new t a taken → StandsForSite new.core
+    go (Ok true) h = record { site = (with_thing t a).site; stands = h.1.0.0; sound = h.1.0.1 }
     go (Ok false) h = h.1
     go (Err fault) h = h
 
 -- ===== All
 
 -- nothing is left: all was taken
-pub all-taken : (old new : Core) (all left : List ℕ) → is_quiet old ≡ true → Leads old new all left → left ≡ [] →
-    (site : Site) → SiteStands old site → (behind : Site) × (TakesBack site all behind × SiteStands new behind)
-all-taken old new all left quiet leads none site stands =
-    let to = leads site stands (quiet-rests old site quiet stands) in
+pub all-taken : (old new : CoreWithLives) (all left : List ℕ) → is_quiet old.core ≡ true → Leads old new all left → left ≡ [] →
+    (a : Acquainted) → AcquaintedStands old a → (behind : Acquainted) × (TakesBack a all behind × AcquaintedStands new behind)
+all-taken old new all left quiet leads none a stands =
+    let to = leads a stands (all-quiet-rests old a quiet stands) in
     let done : TakesBack to.0 left to.0 = record {
       things = [];
       are = refl;
@@ -284,8 +331,8 @@ all-taken old new all left quiet leads none site stands =
     (to.0, ((to.3 to.0).1 done, to.1))
 
 -- what is left is refused
-pub all-refused : (old new : Core) (all left : List ℕ) → Leads old new all left →
-    ((site behind : Site) → SiteStands new site → TakesBack site left behind → ⊥) →
-    (site behind : Site) → SiteStands old site → TakesBack site all behind → ⊥
-all-refused old new all left leads refused site behind stands took =
-    let to = leads site stands took.rests in refused to.0 behind to.1 ((to.3 behind).0 took)
+pub all-refused : (old new : CoreWithLives) (all left : List ℕ) → Leads old new all left →
+    ((a behind : Acquainted) → AcquaintedStands new a → TakesBack a left behind → ⊥) →
+    (a behind : Acquainted) → AcquaintedStands old a → TakesBack a all behind → ⊥
+all-refused old new all left leads refused a behind stands took =
+    let to = leads a stands took.rests in refused to.0 behind to.1 ((to.3 behind).0 took)

@@ -1,4 +1,4 @@
--- What lasts of a site's requests in bytes, and when such bytes are taken back.
-pub mod Bytes
+-- What lasts of the requests to a site and of the lives that it knows, in bytes, and when such bytes are taken back.
+pub mod Stands
 pub mod Notes
 pub mod Takings

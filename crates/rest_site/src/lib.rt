@@ -1,47 +1,54 @@
-//! A site that can end and start again: it puts what lasts of each request behind a log, and takes back what stands in one.
+//! A site with the lives that it knows, which can end and start again: it puts what lasts of each request behind a log, and takes
+//! back what stands in one.
 //!
-//! The rules, and how what lasts is spelled, are stated in `docs/MODEL.md`, 'What lasts'.
+//! The rules, and how what lasts is spelled, are stated in `docs/MODEL.md`, 'What lasts' and 'Lives'.
 #![tactic(auto)]
 
 ghost use Rattle.std.specs.Prelude.{◌≡◌, ◌≤◌, length, IsTrue, IfOk};
 ghost use Rattle.tardis_base.specs.Valid.{are_limits};
 ghost use Rattle.plain_dag.specs.Collection.{kept_states};
-ghost use Rattle.plain_site.specs.Site.{Site, opening};
-ghost use Rattle.session_core.specs.Machine.{SiteStands, opened_with};
+ghost use Rattle.plain_site.specs.Site.{opening};
+ghost use Rattle.site_lives.specs.Lives.{is_of_lives, with_new};
+ghost use Rattle.site_lives.specs.Acquainted.{Acquainted, unacquainted, about_lives};
+ghost use Rattle.rest_site.specs.Stands.{AcquaintedStands, opened_alone};
 
+mod machines;
 mod notes;
 mod puts;
-mod rests;
+mod serving;
 mod takes;
 mod things;
 
 use session_core::SiteCore;
+use site_lives::{Lives, NewLife};
 use std::alloc::Global;
 use std::hash::RandomState;
 use std::marker::Model;
-use tardis_base::{Limits, NoMemory};
+use tardis_base::{Limits, NoMemory, ReplyBuf};
 
-/// A site that can end and start again.
+/// A site with the lives that it knows, which can end and start again.
 #[derive(Drop)]
 pub struct RestSite {
     core: SiteCore,
+    lives: Lives,
     alloc: Global,
 }
 
 impl Model for RestSite {
-    ghost use Rattle.session_core.specs.Core.{Core};
+    ghost use Rattle.rest_site.specs.Stands.{CoreWithLives};
 
-    ghost Value = { Core };
+    ghost Value = { CoreWithLives };
 
     ghost use Rattle.session_core.specs.Stands.{StandsForSite};
 
-    ghost view = { λ a. a.core };
+    ghost view = { λ a. record { core = a.core; lives = a.lives } };
 
     ghost invariant = { λ a. StandsForSite a.core };
 }
 
 impl RestSite {
-    /// A site that opens: the root alone, no session, and nothing that waits. Its keys are found by hashing with this seed.
+    /// A site that opens: the root alone, no session, nothing that waits, and no life that is known, the own one neither. Its keys
+    /// are found by hashing with this seed.
     pub fn new(
         alloc: Global,
         keys: RandomState,
@@ -51,31 +58,64 @@ impl RestSite {
         requires limits { IsTrue (are_limits limits) }
         requires first { 1 ≤ own }
         requires last { own ≤ limits.sites }
-        ensures stands { IfOk result (λ site. SiteStands site (opening limits own)) }
-        ensures opening { IfOk result (λ site. opened_with site ≡ opening limits own) }
+        ensures stands { IfOk result (λ site. AcquaintedStands site (unacquainted (opening limits own))) }
+        ensures opening { IfOk result (λ site. opened_alone site ≡ unacquainted (opening limits own)) }
     {
         let core = SiteCore::new(alloc, keys, limits, own)?;
-        Ok(RestSite { core, alloc })
+        Ok(RestSite {
+            core,
+            lives: Lives::new(),
+            alloc,
+        })
     }
 
     /// The site, to be asked.
     pub fn core(&self) -> &SiteCore
-        ensures { result.now ≡ self.now }
+        ensures { result.now ≡ self.now.core }
     {
         &self.core
     }
 
+    /// The lives that it knows.
+    pub fn lives(&self) -> &Lives
+        ensures { result.now ≡ self.now.lives }
+    {
+        &self.lives
+    }
+
+    /// The site's number, and how many sites there are.
+    pub fn place(&self) -> (u16, u16)
+        ensures { (a : Acquainted) → AcquaintedStands self.now a → result ≡ (a.site.own, a.site.limits.sites) }
+    {
+        (
+            self.core.book().own_site(),
+            self.core.store().dag().limits().sites,
+        )
+    }
+
     /// How many states are known, the root among them, in constant time.
     pub fn known(&self) -> u64
-        ensures { (site : Site) → SiteStands self.now site → result ≡ length site.dag }
+        ensures { (a : Acquainted) → AcquaintedStands self.now a → result ≡ length a.site.dag }
     {
         self.core.store().dag().known()
     }
 
     /// How many states are kept, in constant time.
     pub fn kept(&self) -> u32
-        ensures { (site : Site) → SiteStands self.now site → result ≡ length (kept_states site.dag site.collected) }
+        ensures { (a : Acquainted) → AcquaintedStands self.now a → result ≡ length (kept_states a.site.dag a.site.collected) }
     {
         self.core.store().dag().kept()
+    }
+
+    /// Answers a request about lives, and tells the life that is new. It takes no memory.
+    fn meet(&mut self, request: &[u8], out: &mut ReplyBuf) -> Option<NewLife>
+        requires { IsTrue (is_of_lives request.now) }
+        ensures reply { (a : Acquainted) → AcquaintedStands self.old a → out.new ≡ (about_lives a request.now).0 }
+        ensures new { (a : Acquainted) → AcquaintedStands self.old a → result ≡ (about_lives a request.now).1 }
+        ensures core { self.new.core ≡ self.old.core }
+        ensures lives { self.new.lives ≡ with_new result self.old.lives }
+    {
+        let (own, sites) = self.place();
+        self.lives.answer(own, sites, request, out)
     }
 }

@@ -1,17 +1,19 @@
 //! What lasts of a request is put behind a log.
 
-ghost use Rattle.std.specs.Prelude.{◌≡◌, ◌+◌, ◌≤◌, ◌++◌, option_to_list, vec_len, vec_capacity};
+ghost use Rattle.std.specs.Prelude.{◌≡◌, ◌+◌, ◌≤◌, ◌++◌, length, option_map, option_to_list, vec_len, vec_capacity};
 ghost use Rattle.tardis_base.specs.declared.records.Item.TheVariants.{Promise};
 ghost use Rattle.rest_machine.specs.Rests.{most_lasting};
 ghost use Rattle.plain_site.specs.Site.{Site};
 ghost use Rattle.plain_site.specs.Rest.{News, lasting_between, collection};
 ghost use Rattle.plain_site.specs.RestSpellings.{lasting_spelling, all_spelling};
 ghost use Rattle.session_core.specs.Machine.{SiteStands};
+ghost use Rattle.site_lives.specs.Things.{OfLives, all_spellings};
 ghost use Rattle.rest_site.specs.Notes.{IsNoted, Follows, HasActed};
 
 use crate::notes::{Noted, raised};
 use record_spelling::{put_consent, put_newest, put_u8, put_u32};
 use session_core::SiteCore;
+use site_lives::NewLife;
 use tardis_base::Consent;
 use wire_item::spellings_have_their_lengths;
 
@@ -58,5 +60,32 @@ fn put_collection(count: u32, log: &mut Vec<u8>)
     if count != 0 {
         put_u8(3, log);
         put_u32(count, log);
+    }
+}
+
+/// Puts the life that is new, if there is one.
+pub(crate) fn put_life(new: &Option<NewLife>, log: &mut Vec<u8>)
+    requires { vec_len log.old + 19 ≤ vec_capacity log.old }
+    ensures items { log.new.items ≡ log.old.items ++ all_spellings (option_to_list (option_map OfLives new.now)) }
+    ensures len { vec_len log.new ≤ vec_len log.old + 19 }
+    ensures capacity { vec_capacity log.old ≤ vec_capacity log.new }
+{
+    if let Some(new) = new {
+        put_u8(4, log);
+        put_bytes(&new.number.to_be_bytes(), log);
+        put_bytes(&new.life, log);
+    }
+}
+
+/// Puts the bytes behind the others, as a whole.
+fn put_bytes(bytes: &[u8], log: &mut Vec<u8>)
+    requires { vec_len log.old + length bytes.now ≤ vec_capacity log.old }
+    ensures items { log.new.items ≡ log.old.items ++ bytes.now }
+    ensures len { vec_len log.new ≡ vec_len log.old + length bytes.now }
+    ensures capacity { vec_capacity log.old ≤ vec_capacity log.new }
+{
+    match log.extend_from_slice(bytes) {
+        Ok(()) => {},
+        Err(_) => unreachable!(),
     }
 }

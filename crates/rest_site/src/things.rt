@@ -1,14 +1,17 @@
 //! What lasted, read back from bytes and taken back.
 
-ghost use Rattle.std.specs.Prelude.{◌≡◌, true, IsTrue, IfOk};
+ghost use Rattle.std.specs.Prelude.{◌≡◌, true, length, Ok, IsTrue, IfOk};
 ghost use Rattle.tardis_base.specs.declared.records.Item.TheVariants.{State};
 ghost use Rattle.plain_site.specs.Rest.{News};
-ghost use Rattle.plain_site.specs.RestSpellings.{is_lasting, lasting_front};
 ghost use Rattle.session_core.specs.Machine.{opened_with};
 ghost use Rattle.session_core.specs.Rests.{is_quiet};
-ghost use Rattle.rest_site.specs.Takings.{lasting_of, state_front, promise_front, collection_front, IsRead, TakesThing};
+ghost use Rattle.rest_site.specs.Stands.{and_lives};
+ghost use Rattle.site_lives.specs.Things.{OfSite, OfLives, is_thing, thing_front, life_front};
+ghost use Rattle.rest_site.specs.Takings.{lasting_of, state_front, promise_front, collection_front, new_life_front, IsRead, TakesThing};
+ghost use Rattle.wire_item.specs.Takings.{Takes};
 
 use session_core::SiteCore;
+use site_lives::{Lives, NewLife};
 use std::alloc::Global;
 use tardis_base::{Consent, NoMemory, Record};
 use wire_item::Reader;
@@ -19,11 +22,12 @@ pub(crate) enum Thing {
     State(Record),
     Promise(Consent),
     Collection(u32),
+    Life(NewLife),
 }
 
 /// The thing at the front of the bytes that are left; None where none stands there.
 pub(crate) fn read_thing(reader: &mut Reader<'_>, alloc: Global) -> Option<Result<Thing, NoMemory>>
-    ensures { IsRead (lasting_front reader.old) result reader.new }
+    ensures { IsRead (thing_front reader.old) result reader.new }
 {
     let code = reader.u8()?;
     if code == 1 {
@@ -34,6 +38,9 @@ pub(crate) fn read_thing(reader: &mut Reader<'_>, alloc: Global) -> Option<Resul
     }
     if code == 3 {
         return read_collection(reader);
+    }
+    if code == 4 {
+        return read_life(reader);
     }
     None
 }
@@ -48,7 +55,7 @@ fn read_state(reader: &mut Reader<'_>, alloc: Global) -> Option<Result<Thing, No
 
 /// The record, where there was memory for it.
 fn state_of(rec: Result<Record, NoMemory>) -> Result<Thing, NoMemory>
-    ensures { (r : Record) → IfOk rec (λ s. s ≡ r) → IfOk result (λ thing. lasting_of thing ≡ News (State r)) }
+    ensures { (r : Record) → IfOk rec (λ s. s ≡ r) → IfOk result (λ thing. lasting_of thing ≡ OfSite (News (State r))) }
 {
     Ok(Thing::State(rec?))
 }
@@ -73,16 +80,59 @@ fn read_collection(reader: &mut Reader<'_>) -> Option<Result<Thing, NoMemory>>
     }
 }
 
+/// A life that was new.
+fn read_life(reader: &mut Reader<'_>) -> Option<Result<Thing, NoMemory>>
+    ensures { IsRead (new_life_front reader.old) result reader.new }
+{
+    let new = new_life(reader)?;
+    Some(Ok(Thing::Life(new)))
+}
+
+/// The number of its site, and the 16 bytes.
+fn new_life(reader: &mut Reader<'_>) -> Option<NewLife>
+    ensures { Takes life_front reader.old result reader.new }
+{
+    let number = reader.u16()?;
+    let life = life_of(reader.bytes(16)?);
+    Some(NewLife { number, life })
+}
+
+/// These 16 bytes.
+fn life_of(bytes: &[u8]) -> [u8; 16]
+    requires { length bytes.now ≡ 16 }
+    ensures { result ≡ bytes.now }
+{
+    match bytes.as_array::<16>() {
+        Some(life) => *life,
+        None => [0; 16],
+    }
+}
+
 /// Takes the thing back, where it fits.
-pub(crate) fn take(core: &mut SiteCore, thing: Thing) -> Result<bool, NoMemory>
+pub(crate) fn take(core: &mut SiteCore, lives: &mut Lives, thing: Thing) -> Result<bool, NoMemory>
     requires quiet { is_quiet core.old ≡ true }
-    requires valid { IsTrue (is_lasting (lasting_of thing)) }
-    ensures taken { TakesThing core.old core.new (lasting_of thing) result }
+    requires valid { IsTrue (is_thing (lasting_of thing)) }
+    ensures taken { TakesThing (and_lives core.old lives.old) (and_lives core.new lives.new) (lasting_of thing) result }
     ensures opening { opened_with core.new ≡ opened_with core.old }
 {
     match thing {
         Thing::State(record) => core.take_record(record),
         Thing::Promise(promise) => Ok(core.take_promise(&promise)),
         Thing::Collection(count) => Ok(core.collect(count) == count),
+        Thing::Life(new) => Ok(take_life(core, lives, &new)),
+    }
+}
+
+/// Takes the life back, where it fits.
+fn take_life(core: &SiteCore, lives: &mut Lives, new: &NewLife) -> bool
+    ensures { TakesThing (and_lives core.now lives.old) (and_lives core.now lives.new) (OfLives new.now) (Ok result) }
+{
+    let own = core.book().own_site();
+    let sites = core.store().dag().limits().sites;
+    if lives.fits(own, sites, new) {
+        lives.put(new);
+        true
+    } else {
+        false
     }
 }

@@ -19,20 +19,21 @@ use Rattle.plain_questions.specs.Readings.{question_of, answer_over_bytes}
 use Rattle.wire_questions.specs.Laws.{told_over_bytes, AnswersToBytesFit}
 use Rattle.wire_questions.specs.Memory.{takes_no_memory}
 use Rattle.site_questions.specs.Sure.{is_sure_question}
-use Rattle.site_doors.specs.Rules.{is_question_at, code_of, told_at, is_sure_at, is_sure_body}
+use Rattle.site_lives.specs.Acquainted.{Acquainted}
+use Rattle.site_doors.specs.Rules.{is_question_at, code_of, told, told_at, is_sure_at, is_sure_body}
 
 module _ (door code : ℕ) (bytes : List ℕ) (is : code ≡ code_of bytes) where
   -- a question is told
-  pub told-question : is_question_at door code ≡ true → (site : Site) → answer_over_bytes site bytes ≡ told_at door site bytes
-  told-question t site =
-      sym (cond-true (is_question_at door (code_of bytes)) (answer_over_bytes site bytes) (reply_spelling (Refused (Unsupported (code_of bytes))))
+  pub told-question : is_question_at door code ≡ true → (a : Acquainted) → told a bytes ≡ told_at door a bytes
+  told-question t a =
+      sym (cond-true (is_question_at door (code_of bytes)) (told a bytes) (reply_spelling (Refused (Unsupported (code_of bytes))))
       (ap (is_question_at door) (sym is) ∙ t))
 
   -- all else is refused
-  pub told-refused : is_question_at door code ≡ false → (site : Site) → reply_spelling (Refused (Unsupported code)) ≡ told_at door site bytes
-  told-refused f site =
+  pub told-refused : is_question_at door code ≡ false → (a : Acquainted) → reply_spelling (Refused (Unsupported code)) ≡ told_at door a bytes
+  told-refused f a =
       ap (λ k. reply_spelling (Refused (Unsupported k))) is
-      ∙ sym (cond-false (is_question_at door (code_of bytes)) (answer_over_bytes site bytes) (reply_spelling (Refused (Unsupported (code_of bytes))))
+      ∙ sym (cond-false (is_question_at door (code_of bytes)) (told a bytes) (reply_spelling (Refused (Unsupported (code_of bytes))))
       (ap (is_question_at door) (sym is) ∙ f))
 
   pub sure-question : is_question_at door code ≡ true → IsTrue (is_sure_at door bytes) → IsTrue (is_sure_body bytes)

@@ -3,20 +3,18 @@ use Rattle.rest_machine.specs.declared.resting.Resting.{Ghosts as AResting}
 use Rattle.rest_machine.specs.declared.settling.Settling.{Ghosts as ASettling}
 use Rattle.hub.specs.Settlings.{PlainSettling, behind_doors}
 use Rattle.hub.specs.Doors.{DoorRules}
-use Rattle.plain_site.specs.Site.{Site}
-use Rattle.plain_site.specs.Step.{site_machine}
-use Rattle.session_core.specs.Core.{Core}
-use Rattle.session_core.specs.Machine.{SiteStands, opened_with}
-use Rattle.rest_site.specs.Bytes.{lasting_bytes, TakesBack}
+use Rattle.site_lives.specs.Acquainted.{Acquainted, acquainted_machine}
+use Rattle.rest_site.specs.Stands.{CoreWithLives, AcquaintedStands, opened_alone}
+use Rattle.site_lives.specs.Bytes.{lasting_bytes, TakesBack}
 use Rattle.site_log.specs.Kept.{Kept}
 use Rattle.site_doors.specs.Rules.{site_doors}
 
 -- the site as a machine that starts again from what lasted
-abbrev pub resting : AResting Core
-resting = record { Plain = Site; plain = site_machine; stands = SiteStands; opening = opened_with; lasting = lasting_bytes; takes_back = TakesBack }
+abbrev pub resting : AResting CoreWithLives
+resting = record { Plain = Acquainted; plain = acquainted_machine; stands = AcquaintedStands; opening = opened_alone; lasting = lasting_bytes; takes_back = TakesBack }
 
 -- the same doors, before the site that is kept
-abbrev pub kept_doors : DoorRules (Kept Site)
+abbrev pub kept_doors : DoorRules (Kept Acquainted)
 kept_doors = record {
   lets_in = site_doors.lets_in;
   answer = λ door kept event. site_doors.answer door kept.state event;

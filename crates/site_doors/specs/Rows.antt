@@ -3,12 +3,13 @@ use Rattle.std.specs.Prelude.{◌≡◌, true, false, [], ◌∷◌}
 use Rattle.plain_site.specs.RowWords.{site_after, lone_site}
 use Rattle.plain_site.specs.RowByteWords.{hex}
 use Rattle.plain_questions.specs.RowsOfReads.{parted}
+use Rattle.site_lives.specs.Acquainted.{unacquainted, acquainted_machine}
 use Rattle.site_doors.specs.Rules.{is_let_in, told_at, is_sure_at}
 
 -- all requests, Tidy among them; a code of no request is the site's to answer, and a question is answered at the door
 abbrev pub AllComesInByTheFirstDoor : Type 0
 AllComesInByTheFirstDoor =
-    let site = site_after lone_site parted in
+    let site = unacquainted (site_after lone_site parted) in
     (is_let_in 0 (hex "0f 0001") ≡ true)
     × (is_let_in 0 (hex "3f") ≡ true)
     × (is_let_in 0 [] ≡ true)
@@ -20,7 +21,7 @@ AllComesInByTheFirstDoor =
 -- a Commit comes in, and a Tidy doesn't; y at 1.1 is told, and the sessions aren't
 abbrev pub ClientsComeInByTheSecondDoor : Type 0
 ClientsComeInByTheSecondDoor =
-    let site = site_after lone_site parted in
+    let site = unacquainted (site_after lone_site parted) in
     (is_let_in 1 (hex "06 00 0000") ≡ true)
     × (is_let_in 1 (hex "0f 0001") ≡ false)
     × (is_let_in 1 [] ≡ true)
@@ -31,7 +32,7 @@ ClientsComeInByTheSecondDoor =
 -- a Pull comes in, and an Open doesn't; the site is told, and the keys aren't
 abbrev pub PeersComeInByTheThirdDoor : Type 0
 PeersComeInByTheThirdDoor =
-    let site = site_after lone_site parted in
+    let site = unacquainted (site_after lone_site parted) in
     (is_let_in 2 (hex "13 0001 00000000") ≡ true)
     × (is_let_in 2 (hex "01 00") ≡ false)
     × (told_at 2 site (hex "01 00") ≡ hex "15 1b 01")
@@ -41,15 +42,36 @@ PeersComeInByTheThirdDoor =
 -- nothing
 abbrev pub NothingComesInByAFourthDoor : Type 0
 NothingComesInByAFourthDoor =
-    let site = site_after lone_site parted in
+    let site = unacquainted (site_after lone_site parted) in
     (is_let_in 3 (hex "10") ≡ false)
     × (told_at 3 site (hex "10") ≡ hex "15 1b 10")
     × (told_at 3 site (hex "46") ≡ hex "15 1b 46")
 
--- refusals, bytes that spell no question, and the question Site
+-- A life that began is told at each of the three doors, and before it begins there is none to tell. To begin one and to meet a site come
+-- in through no door.
+abbrev pub LivesAreToldAtEachDoor : Type 0
+LivesAreToldAtEachDoor =
+    let unborn = unacquainted (site_after lone_site parted) in
+    let site = acquainted_machine.step unborn (0, hex "49 aaaaaaaaaaaaaaaaaaaaaaaaaaaaaaaa") in
+    let told = hex "47 0001 0001 aaaaaaaaaaaaaaaaaaaaaaaaaaaaaaaa" in
+    (is_let_in 0 (hex "47") ≡ false)
+    × (told_at 0 site (hex "47") ≡ told)
+    × (told_at 1 site (hex "47") ≡ told)
+    × (told_at 2 site (hex "47") ≡ told)
+    × (told_at 3 site (hex "47") ≡ hex "15 1b 47")
+    × (told_at 0 site (hex "47 00") ≡ hex "15 01")
+    × (told_at 2 unborn (hex "47") ≡ hex "15 1b 47")
+    × (is_let_in 0 (hex "48") ≡ false)
+    × (told_at 0 site (hex "48 47 0002 0002 bbbbbbbbbbbbbbbbbbbbbbbbbbbbbbbb") ≡ hex "15 01")
+    × (told_at 2 site (hex "48 47 0002 0002 bbbbbbbbbbbbbbbbbbbbbbbbbbbbbbbb") ≡ hex "15 1b 48")
+    × (is_let_in 0 (hex "49") ≡ false)
+    × (told_at 0 unborn (hex "49 aaaaaaaaaaaaaaaaaaaaaaaaaaaaaaaa") ≡ hex "15 01")
+
+-- refusals, bytes that spell no question, the question Site, and who the site is
 abbrev pub SomeAnswersAreSure : Type 0
 SomeAnswersAreSure =
     (is_sure_at 1 (hex "0f 0001") ≡ true)
     × (is_sure_at 0 (hex "ff") ≡ true)
     × (is_sure_at 2 (hex "46") ≡ true)
+    × (is_sure_at 2 (hex "47") ≡ true)
     × (is_sure_at 1 (hex "40 0001 00000001 01 79") ≡ false)

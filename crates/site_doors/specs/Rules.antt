@@ -1,5 +1,5 @@
 -- What a site lets in through each of its doors, and what it answers there itself.
-use Rattle.std.specs.Prelude.{ℕ, Bool, true, false, ◌==◌, nat_lt, nat_le, List, [], ◌∷◌, if◌then◌else◌}
+use Rattle.std.specs.Prelude.{ℕ, Bool, true, false, ◌==◌, nat_lt, nat_le, bytes_eq, List, [], ◌∷◌, if◌then◌else◌}
 use Rattle.std.specs.List.{list_any}
 use Rattle.std.specs.Option.{option_map_or}
 use Rattle.tardis_base.specs.declared.replies.Refusal.TheVariants.{Unsupported}
@@ -7,7 +7,10 @@ use Rattle.tardis_base.specs.declared.replies.Reply.TheVariants.{Refused}
 use Rattle.wire_talk.specs.declared.request_codes.TheConstants.{OPEN, BEGIN, GET, PUT, DELETE, COMMIT, ABORT, BEGIN_MERGE, FORK_POINTS, CONFLICTS, GET_FOR}
 use Rattle.wire_talk.specs.declared.request_codes.TheConstants.{CEILING, STAT, SHOW, LEAVES, PULL, CLOSE}
 use Rattle.wire_talk.specs.Spellings.{reply_spelling}
-use Rattle.plain_site.specs.Site.{Site}
+use Rattle.wire_lives.specs.declared.life_codes.TheConstants.{LIFE}
+use Rattle.wire_lives.specs.Spellings.{introduction_spelling}
+use Rattle.site_lives.specs.Lives.{introduction}
+use Rattle.site_lives.specs.Acquainted.{Acquainted}
 use Rattle.plain_questions.specs.declared.question_codes.TheConstants.{AT, KEYS, SCAN, RECORD, BASE, SITE}
 use Rattle.plain_questions.specs.Readings.{question_of, answer_over_bytes}
 use Rattle.site_questions.specs.Sure.{is_sure_question}
@@ -23,14 +26,14 @@ client_requests =
     BEGIN_MERGE ∷ FORK_POINTS ∷ CONFLICTS ∷ GET_FOR ∷ STAT ∷ SHOW ∷ LEAVES ∷ []
 
 abbrev pub client_questions : List ℕ
-client_questions = AT ∷ KEYS ∷ SCAN ∷ RECORD ∷ BASE ∷ SITE ∷ []
+client_questions = AT ∷ KEYS ∷ SCAN ∷ RECORD ∷ BASE ∷ SITE ∷ LIFE ∷ []
 
--- of other sites: how much is known, and news
+-- of other sites: how much is known, news, and who the site is
 abbrev pub peer_requests : List ℕ
 peer_requests = STAT ∷ PULL ∷ []
 
 abbrev pub peer_questions : List ℕ
-peer_questions = RECORD ∷ SITE ∷ []
+peer_questions = RECORD ∷ SITE ∷ LIFE ∷ []
 
 abbrev pub is_one_of : List ℕ → ℕ → Bool
 is_one_of codes code = list_any (λ c. c == code) codes
@@ -62,10 +65,19 @@ abbrev pub is_let_in : ℕ → List ℕ → Bool
 is_let_in door [] = true
 is_let_in door (code ∷ fields) = is_request_at door code
 
+-- who asks who the site is, is told its introduction; before its life began that is unsupported
+abbrev pub told_of_life : Acquainted → List ℕ
+told_of_life a =
+    option_map_or introduction_spelling (introduction a.site.own a.site.limits.sites a.lives) (reply_spelling (Refused (Unsupported LIFE)))
+
+-- what the bytes are told that are a question, or spell none
+abbrev pub told : Acquainted → List ℕ → List ℕ
+told a bytes = if bytes_eq bytes (LIFE ∷ []) then told_of_life a else answer_over_bytes a.site bytes
+
 -- a question is told what the site tells, and everything else is refused as unsupported
-abbrev pub told_at : ℕ → Site → List ℕ → List ℕ
-told_at door site bytes =
-    if is_question_at door (code_of bytes) then answer_over_bytes site bytes else reply_spelling (Refused (Unsupported (code_of bytes)))
+abbrev pub told_at : ℕ → Acquainted → List ℕ → List ℕ
+told_at door a bytes =
+    if is_question_at door (code_of bytes) then told a bytes else reply_spelling (Refused (Unsupported (code_of bytes)))
 
 -- memory fails no refusal, be it of what is no question, and no question that takes none
 abbrev pub is_sure_body : List ℕ → Bool
@@ -76,9 +88,9 @@ is_sure_at door bytes = if is_question_at door (code_of bytes) then is_sure_body
 
 -- ===== The rules
 
-abbrev pub site_doors : DoorRules Site
+abbrev pub site_doors : DoorRules Acquainted
 site_doors = record {
   lets_in = is_let_in;
-  answer = λ door site event. told_at door site event.1;
+  answer = λ door a event. told_at door a event.1;
   is_sure = λ door event. is_sure_at door event.1;
 }

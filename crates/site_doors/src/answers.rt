@@ -1,30 +1,36 @@
 //! What is answered at a door.
 
-ghost use Rattle.std.specs.Prelude.{◌≡◌, [], IsTrue, IsOk, IfOk, OnOk, OnErr};
+ghost use Rattle.std.specs.Prelude.{◌≡◌, [], ◌∷◌, bytes_eq, IsTrue, IsOk, IfOk, OnOk, OnErr};
 ghost use Rattle.plain_site.specs.Site.{Site};
 ghost use Rattle.session_core.specs.Machine.{SiteStands};
 ghost use Rattle.plain_questions.specs.Readings.{answer_over_bytes};
 ghost use Rattle.wire_questions.specs.Laws.{told_over_bytes};
-ghost use Rattle.site_doors.specs.Rules.{told_at, is_sure_at, is_sure_body};
+ghost use Rattle.wire_lives.specs.declared.life_codes.TheConstants.{LIFE};
+ghost use Rattle.site_lives.specs.Acquainted.{Acquainted};
+ghost use Rattle.rest_site.specs.Stands.{AcquaintedStands};
+ghost use Rattle.site_doors.specs.Rules.{told, told_of_life, told_at, is_sure_at, is_sure_body};
 
 use crate::passages::{first_byte, is_question};
 use plain_questions::{Answered, Denial};
+use rest_site::RestSite;
 use session_core::SiteCore;
 use site_questions::answer;
 use std::alloc::Global;
 use tardis_base::{NoMemory, Refusal, ReplyBuf};
+use wire_lives::life_codes::LIFE;
+use wire_lives::write_introduction;
 use wire_questions::{answers_fit_a_frame, read_question, write_answer};
 use wire_talk::write_refused;
 
 /// Answers a body that doesn't come in through the door. It changes nothing of the site.
 pub fn answer_at(
     alloc: Global,
-    site: &SiteCore,
+    site: &RestSite,
     door: u8,
     body: &[u8],
     out: &mut ReplyBuf,
 ) -> Result<(), NoMemory>
-    ensures told { OnOk result ((plain : Site) → SiteStands site.now plain → out.new ≡ told_at door plain body.now) }
+    ensures told { OnOk result ((a : Acquainted) → AcquaintedStands site.now a → out.new ≡ told_at door a body.now) }
     ensures empty { OnErr result (out.new ≡ []) }
     ensures sure { IsTrue (is_sure_at door body.now) → IsOk result }
 {
@@ -39,7 +45,46 @@ pub fn answer_at(
 }
 
 /// Writes what the bytes are told into the empty buffer.
-fn tell(alloc: Global, site: &SiteCore, bytes: &[u8], out: &mut ReplyBuf) -> Result<(), NoMemory>
+fn tell(alloc: Global, site: &RestSite, bytes: &[u8], out: &mut ReplyBuf) -> Result<(), NoMemory>
+    requires { out.old ≡ [] }
+    ensures told { OnOk result ((a : Acquainted) → AcquaintedStands site.now a → out.new ≡ told a bytes.now) }
+    ensures empty { OnErr result (out.new ≡ []) }
+    ensures sure { IsTrue (is_sure_body bytes.now) → IsOk result }
+{
+    if asks_life(bytes) {
+        tell_life(site, out);
+        Ok(())
+    } else {
+        tell_of_site(alloc, site.core(), bytes, out)
+    }
+}
+
+/// Whether the bytes are the question who the site is.
+fn asks_life(bytes: &[u8]) -> bool
+    ensures { result ≡ bytes_eq bytes.now (LIFE ∷ []) }
+{
+    bytes == [LIFE].as_slice()
+}
+
+/// Writes the site's introduction into the empty buffer, or that it has none to give.
+fn tell_life(site: &RestSite, out: &mut ReplyBuf)
+    requires { out.old ≡ [] }
+    ensures { (a : Acquainted) → AcquaintedStands site.now a → out.new ≡ told_of_life a }
+{
+    let (own, sites) = site.place();
+    match site.lives().introduction(own, sites) {
+        Some(introduction) => write_introduction(&introduction, out),
+        None => write_refused(&Refusal::Unsupported { op: LIFE }, out),
+    }
+}
+
+/// Writes what the bytes are told of the site into the empty buffer.
+fn tell_of_site(
+    alloc: Global,
+    site: &SiteCore,
+    bytes: &[u8],
+    out: &mut ReplyBuf,
+) -> Result<(), NoMemory>
     requires { out.old ≡ [] }
     ensures told { OnOk result ((plain : Site) → SiteStands site.now plain → out.new ≡ answer_over_bytes plain bytes.now) }
     ensures empty { OnErr result (out.new ≡ []) }

@@ -12,6 +12,7 @@ use tardis_io::Failed;
 
 /// A site with the log of what lasted of its requests, behind its doors: what comes in through one is a request to the site, and
 /// everything else is answered at the door, and nothing lasts of it. What a question costs is told at `site_questions::answer`.
+/// Requests about lives come in through no door.
 #[derive(Drop)]
 pub struct AskedLog<K: BytewiseDisk> {
     pub alloc: Global,
@@ -20,14 +21,14 @@ pub struct AskedLog<K: BytewiseDisk> {
 
 impl<K: BytewiseDisk> Settling for AskedLog<K> {
     ghost use Rattle.std.specs.Prelude.{refl};
-    ghost use Rattle.plain_site.specs.Site.{Site};
+    ghost use Rattle.site_lives.specs.Acquainted.{Acquainted};
     ghost use Rattle.hub.specs.Doors.{seen_through, seen_guards};
     ghost use Rattle.site_log.specs.Kept.{Kept, IsSettled, with_settle, logged};
     ghost use Rattle.site_log.specs.Images.{Mark};
     ghost use Rattle.site_log.specs.Stood.{Stands, faults_of};
     ghost use Rattle.site_doors.specs.Kept.{resting, kept_doors};
 
-    ghost Plain = { Kept Site };
+    ghost Plain = { Kept Acquainted };
 
     ghost plain = { logged resting };
 
@@ -57,7 +58,7 @@ impl<K: BytewiseDisk> Settling for AskedLog<K> {
         if comes_in(door, request) {
             self.log.act(actor, request, out)
         } else {
-            answer_at(self.alloc, self.log.machine().core(), door, request, out)
+            answer_at(self.alloc, self.log.machine(), door, request, out)
         }
     }
 

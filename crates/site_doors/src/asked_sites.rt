@@ -3,36 +3,36 @@
 use crate::answers::answer_at;
 use crate::passages::comes_in;
 use rest_machine::Settling;
-use session_core::SiteCore;
+use rest_site::RestSite;
 use std::alloc::Global;
 use tardis_base::{Machine, NoMemory, ReplyBuf};
 use tardis_io::Failed;
 
-/// A site that is lost when it ends, behind its doors: what comes in through one is a request to the site, and everything else
-/// is answered at the door. What a question costs is told at `site_questions::answer`.
+/// A site that is lost when it ends, with the lives that it knows, behind its doors: what comes in through one is a request to the
+/// site, and everything else is answered at the door. What a question costs is told at `site_questions::answer`. Requests about
+/// lives come in through no door.
 #[derive(Drop)]
 pub struct AskedSite {
     pub alloc: Global,
-    pub site: SiteCore,
+    pub site: RestSite,
 }
 
 impl Settling for AskedSite {
     ghost use Rattle.std.specs.Prelude.{◌≡◌, ℕ};
-    ghost use Rattle.plain_site.specs.Site.{Site};
-    ghost use Rattle.plain_site.specs.Step.{site_machine};
-    ghost use Rattle.session_core.specs.Machine.{SiteStands, opened_with};
+    ghost use Rattle.site_lives.specs.Acquainted.{Acquainted, acquainted_machine};
+    ghost use Rattle.rest_site.specs.Stands.{AcquaintedStands, opened_alone};
     ghost use Rattle.hub.specs.Doors.{seen_through, seen_guards};
     ghost use Rattle.site_doors.specs.Rules.{site_doors};
 
-    ghost Plain = { Site };
+    ghost Plain = { Acquainted };
 
-    ghost plain = { site_machine };
+    ghost plain = { acquainted_machine };
 
-    ghost through = { seen_through site_machine site_doors };
+    ghost through = { seen_through acquainted_machine site_doors };
 
-    ghost stands = { λ a plain. SiteStands a.site plain };
+    ghost stands = { λ a plain. AcquaintedStands a.site plain };
 
-    ghost opening = { λ a. opened_with a.site };
+    ghost opening = { λ a. opened_alone a.site };
 
     ghost is_settled = { λ _. Unit {0} };
 
@@ -68,5 +68,5 @@ impl Settling for AskedSite {
 
     ghost settles = { λ plain. tt };
 
-    ghost guards = { seen_guards site_machine site_doors };
+    ghost guards = { seen_guards acquainted_machine site_doors };
 }

@@ -4,6 +4,7 @@ ghost use Rattle.std.specs.Prelude.{◌≡◌};
 ghost use Rattle.site_doors.specs.Rules.{is_request_at, is_question_at, is_let_in, code_of};
 
 use plain_questions::question_codes;
+use wire_lives::life_codes::LIFE;
 use wire_talk::request_codes;
 
 /// The number of a door for all that may be asked.
@@ -36,20 +37,21 @@ const CLIENT_REQUESTS: [u8; 16] = [
 ];
 
 /// The questions that are answered at a door for clients.
-const CLIENT_QUESTIONS: [u8; 6] = [
+const CLIENT_QUESTIONS: [u8; 7] = [
     question_codes::AT,
     question_codes::KEYS,
     question_codes::SCAN,
     question_codes::RECORD,
     question_codes::BASE,
     question_codes::SITE,
+    LIFE,
 ];
 
 /// The requests that come in through a door for other sites.
 const PEER_REQUESTS: [u8; 2] = [request_codes::STAT, request_codes::PULL];
 
 /// The questions that are answered at a door for other sites.
-const PEER_QUESTIONS: [u8; 2] = [question_codes::RECORD, question_codes::SITE];
+const PEER_QUESTIONS: [u8; 3] = [question_codes::RECORD, question_codes::SITE, LIFE];
 
 /// Whether the body comes in through the door.
 pub fn comes_in(door: u8, body: &[u8]) -> bool

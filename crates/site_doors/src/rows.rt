@@ -1,6 +1,6 @@
 //! Worked rows: what comes in through each door, and what is answered there.
 
-ghost use Rattle.site_doors.specs.Rows.{AllComesInByTheFirstDoor, ClientsComeInByTheSecondDoor, PeersComeInByTheThirdDoor};
+ghost use Rattle.site_doors.specs.Rows.{AllComesInByTheFirstDoor, ClientsComeInByTheSecondDoor, PeersComeInByTheThirdDoor, LivesAreToldAtEachDoor};
 ghost use Rattle.site_doors.specs.Rows.{NothingComesInByAFourthDoor, SomeAnswersAreSure};
 
 /// What comes in through each door, and what is answered there.
@@ -8,6 +8,7 @@ pub fn doors_are_told()
     ensures all { AllComesInByTheFirstDoor }
     ensures clients { ClientsComeInByTheSecondDoor }
     ensures peers { PeersComeInByTheThirdDoor }
+    ensures lives { LivesAreToldAtEachDoor }
     ensures other { NothingComesInByAFourthDoor }
     ensures sure { SomeAnswersAreSure }
 {}

@@ -1,6 +1,11 @@
-//! The bytes by which sites are told apart from their other lives.
+//! How a site introduces itself to another: its number, how many sites there are, and its life, in bytes.
 //!
-//! A life is what a site was given when it began, in memory or in a file.
+//! The rules are stated in `docs/FORMATS.md`, 'Lives'.
 #![tactic(auto)]
 
+mod introductions;
 pub mod life_codes;
+
+pub use introductions::{
+    Introduction, introductions_have_one_spelling, read_introduction, read_life, write_introduction,
+};

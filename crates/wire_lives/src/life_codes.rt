@@ -1,28 +1,29 @@
-//! The codes of lives, and the verdicts on an introduction, as `docs/FORMATS.md` has them.
+//! The codes of what is asked and said of lives, as `docs/FORMATS.md` has them. Those of requests are below 64, and those of
+//! questions below 71.
 
-/// Asks a site to introduce itself. An introduction begins with it too.
+/// The question who the site is, and the first byte of what it is told.
 pub const LIFE: u8 = 71;
 
-/// Asks a site whether it may exchange with the one of an introduction, and begins the reply.
+/// The request to meet the site of an introduction, and the first byte of its reply.
 pub const MEET: u8 = 72;
 
-/// Gives a site its life, where it has none yet.
+/// The request to begin a life, and the first byte of its reply.
 pub const BEGIN_LIFE: u8 = 73;
 
-/// The site may be exchanged with.
+/// The second byte of a reply: the life is known from then on.
 pub const MET: u8 = 0;
 
-/// A site of this number was met in another life.
+/// The site of that number was met with another life.
 pub const ANOTHER_LIFE: u8 = 1;
 
-/// The site has the own number.
+/// The number is the site's own.
 pub const OWN_NUMBER: u8 = 2;
 
-/// The site is one of another number of sites.
+/// The other site is one of more sites, or of fewer.
 pub const OTHER_SITES: u8 = 3;
 
 /// The bytes are no introduction.
 pub const NO_INTRODUCTION: u8 = 4;
 
-/// The own site has no life yet.
+/// There is no life: the site that was to meet another one has none yet, or the bytes of one that is to begin are none.
 pub const NO_LIFE: u8 = 5;

@@ -2,12 +2,13 @@ use Rattle.std.proofs.Common.{◌≡◌, ◌+◌, ◌≤◌, true, length}
 use Rattle.session_core.specs.Stands.{StandsForSite}
 use Rattle.session_core.specs.Machine.{opened_with}
 use Rattle.session_core.specs.Rests.{is_quiet}
+use Rattle.rest_site.specs.Stands.{and_lives}
 use Rattle.rest_site.specs.Takings.{Leads}
 use Rattle.rest_site.proofs.takes.take_all.Given as goal
 
 abbrev pub invariant-loop-place : goal.invariant-loop-place
 invariant-loop-place l = record {
-  leads : Leads l.fn.core l.core l.bytes l.reader;
+  leads : Leads (and_lives l.fn.core l.fn.lives) (and_lives l.core l.lives) l.bytes l.reader;
   quiet : is_quiet l.core ≡ true;
   stands : StandsForSite l.core;
   shorter : length l.reader + l._place ≤ length l.bytes;

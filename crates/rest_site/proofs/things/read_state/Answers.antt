@@ -3,6 +3,7 @@ use Rattle.wire_item.specs.Readings.{record_front}
 use Rattle.wire_item.proofs.Fronts.{made-read}
 use Rattle.wire_item.proofs.Takings.{making, unmade, made-none}
 use Rattle.plain_site.specs.Rest.{News}
+use Rattle.site_lives.specs.Things.{OfSite}
 use Rattle.rest_site.specs.Takings.{state_front}
 use Rattle.rest_site.proofs.Taken.{read-none}
 use Rattle.rest_site.proofs.things.read_state.Goals as goal
@@ -10,12 +11,12 @@ use Rattle.rest_site.proofs.things.read_state.Goals as goal
 pub returns-in_err-record : goal.returns-in_err-record
 returns-in_err-record c =
     read-none (state_front c.args.reader.now) c.from_residual.result c.record.new.self c.from_residual.ensures
-    (made-none (λ r. News (State r)) record_front c.args.reader.now (unmade record_front c.args.reader.now c.record.new.self c.in_err-record.ensures))
+    (made-none (λ r. OfSite (News (State r))) record_front c.args.reader.now (unmade record_front c.args.reader.now c.record.new.self c.in_err-record.ensures))
 
 pub returns : goal.returns
 returns c =
     let read = making record_front c.args.reader.now c.record.new.self c.in_ok-record.record c.in_ok-record.ensures in (
-      News (State read.0),
-      made-read (λ r. News (State r)) record_front c.args.reader.now read.0 c.record.new.self read.1,
+      OfSite (News (State read.0)),
+      made-read (λ r. OfSite (News (State r))) record_front c.args.reader.now read.0 c.record.new.self read.1,
       c.state_of.ensures read.0 read.2,
     )

@@ -1,8 +1,8 @@
 use Rattle.std.proofs.Common.{◌≡◌, ℕ, List, [], sym, subst, ◌∙◌}
 use Rattle.std.specs.Prelude.{OnOk}
 use Rattle.tardis_base.specs.Plain.{Event}
-use Rattle.plain_site.specs.Site.{Site}
-use Rattle.session_core.specs.Machine.{SiteStands}
+use Rattle.site_lives.specs.Acquainted.{Acquainted}
+use Rattle.rest_site.specs.Stands.{AcquaintedStands}
 use Rattle.hub.specs.Doors.{seen_through}
 use Rattle.site_log.specs.declared.logged.Logged.{Logged}
 use Rattle.site_log.specs.Kept.{Kept, logged}
@@ -19,8 +19,8 @@ returns-then-comes_in-clause-reply g c =
     let old = c.args.self.now.log in
     let out = c.act.new.out in
     on_ok c.act.result
-    ((kept : Kept Site) → ((marks : List Mark) × Stands resting g.K.Disk old kept marks) → out ≡ (logged resting).reply kept e)
-    ((kept : Kept Site) → ((marks : List Mark) × Stands resting g.K.Disk old kept marks) → out ≡ (seen_through (logged resting) kept_doors c.args.door).reply kept e)
+    ((kept : Kept Acquainted) → ((marks : List Mark) × Stands resting g.K.Disk old kept marks) → out ≡ (logged resting).reply kept e)
+    ((kept : Kept Acquainted) → ((marks : List Mark) × Stands resting g.K.Disk old kept marks) → out ≡ (seen_through (logged resting) kept_doors c.args.door).reply kept e)
     c.act.ensures.reply
     (in-reply (logged resting) kept_doors (λ l kept. (marks : List Mark) × Stands resting g.K.Disk l kept marks) c.args.door e old old out
     (sym c.comes_in.ensures ∙ c.if-comes_in.true))
@@ -31,9 +31,9 @@ returns-then-comes_in-clause-step g c =
     let old = c.args.self.now.log in
     let new = c.act.new.self in
     on_ok c.act.result
-    ((kept : Kept Site) → ((marks : List Mark) × Stands resting g.K.Disk old kept marks)
+    ((kept : Kept Acquainted) → ((marks : List Mark) × Stands resting g.K.Disk old kept marks)
     → (marks : List Mark) × Stands resting g.K.Disk new ((logged resting).step kept e) marks)
-    ((kept : Kept Site) → ((marks : List Mark) × Stands resting g.K.Disk old kept marks)
+    ((kept : Kept Acquainted) → ((marks : List Mark) × Stands resting g.K.Disk old kept marks)
     → (marks : List Mark) × Stands resting g.K.Disk new ((seen_through (logged resting) kept_doors c.args.door).step kept e) marks)
     c.act.ensures.step
     (in-step (logged resting) kept_doors (λ l kept. (marks : List Mark) × Stands resting g.K.Disk l kept marks) c.args.door e old new []
@@ -53,20 +53,20 @@ returns-else-comes_in-clause-reply g c =
     let old = c.args.self.now.log in
     let out = c.answer_at.new.out in
     on_ok c.answer_at.result
-    ((plain : Site) → SiteStands c.core.result.now plain → out ≡ told_at c.args.door plain c.args.request.now)
-    ((kept : Kept Site) → ((marks : List Mark) × Stands resting g.K.Disk old kept marks) → out ≡ (seen_through (logged resting) kept_doors c.args.door).reply kept e)
+    ((a : Acquainted) → AcquaintedStands c.machine.result.now a → out ≡ told_at c.args.door a c.args.request.now)
+    ((kept : Kept Acquainted) → ((marks : List Mark) × Stands resting g.K.Disk old kept marks) → out ≡ (seen_through (logged resting) kept_doors c.args.door).reply kept e)
     c.answer_at.ensures.told
     (λ f. out-reply (logged resting) kept_doors (λ l kept. (marks : List Mark) × Stands resting g.K.Disk l kept marks) c.args.door e old old out
     (sym c.comes_in.ensures ∙ c.if-comes_in.false)
-    (λ kept s. f kept.state (subst (λ core. SiteStands core kept.state) (sym (c.core.ensures ∙ c.machine.ensures)) s.1.stood)))
+    (λ kept s. f kept.state (subst (λ held. AcquaintedStands held kept.state) (sym c.machine.ensures) s.1.stood)))
 
 pub returns-else-comes_in-clause-step : goal.returns-else-comes_in-clause-step
 returns-else-comes_in-clause-step g c =
     let e : Event = (c.args.actor, c.args.request.now) in
     let old = c.args.self.now.log in
     on_ok c.answer_at.result
-    ((plain : Site) → SiteStands c.core.result.now plain → c.answer_at.new.out ≡ told_at c.args.door plain c.args.request.now)
-    ((kept : Kept Site) → ((marks : List Mark) × Stands resting g.K.Disk old kept marks)
+    ((a : Acquainted) → AcquaintedStands c.machine.result.now a → c.answer_at.new.out ≡ told_at c.args.door a c.args.request.now)
+    ((kept : Kept Acquainted) → ((marks : List Mark) × Stands resting g.K.Disk old kept marks)
     → (marks : List Mark) × Stands resting g.K.Disk old ((seen_through (logged resting) kept_doors c.args.door).step kept e) marks)
     c.answer_at.ensures.told
     (λ f. out-step (logged resting) kept_doors (λ l kept. (marks : List Mark) × Stands resting g.K.Disk l kept marks) c.args.door e old old []

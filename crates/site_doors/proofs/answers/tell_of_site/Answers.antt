@@ -1,7 +1,7 @@
 use Rattle.std.proofs.Common.{◌≡◌, ◌++◌, List, ℕ, sym, ap, ◌∙◌}
 use Rattle.plain_questions.specs.Spellings.{answer_spelling}
 use Rattle.site_doors.proofs.Told.{fits, valid}
-use Rattle.site_doors.proofs.answers.tell.Goals as goal
+use Rattle.site_doors.proofs.answers.tell_of_site.Goals as goal
 
 pub write_answer-requires : goal.write_answer-requires
 write_answer-requires c =

@@ -1,0 +1,7 @@
+-- How lives stay, and last.
+pub mod Stays
+pub mod Trails
+pub mod Once
+pub mod Lasting
+pub mod Fitting
+pub mod Spelled

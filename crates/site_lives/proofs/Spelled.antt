@@ -1,0 +1,89 @@
+-- What lasts is read as it is spelled, and taken back in one way.
+use Rattle.std.proofs.Common.{◌≡◌, ℕ, List, [], ◌∷◌, ◌++◌, Some, None, IsTrue, refl, sym, ap, ◌∙◌}
+use Rattle.std.specs.Prelude.{nat_le, ◌&&◌}
+use Rattle.std.proofs.lemmas.Bool.{and_parts, and_from}
+use Rattle.tardis_base.specs.declared.records.Item.TheVariants.{State, Promise}
+use Rattle.tardis_base.specs.Valid.{is_u16, is_u32, are_bytes}
+use Rattle.wire_item.specs.Spellings.{u16_spelling, u32_spelling}
+use Rattle.wire_item.specs.Fronts.{only_if}
+use Rattle.wire_item.specs.Readings.{u32_front}
+use Rattle.wire_item.proofs.Fronts.{some-parts}
+use Rattle.wire_item.proofs.Ways.{Reads, reads-both, reads-made, reads-only_if, row-made, by_code-only, made-back}
+use Rattle.wire_item.proofs.Numbers.{reads-u16, reads-u32}
+use Rattle.wire_item.proofs.Things.{reads-record, reads-consent}
+use Rattle.wire_lives.specs.Spellings.{is_life}
+use Rattle.wire_lives.proofs.Laws.{reads-life}
+use Rattle.plain_site.specs.Rest.{News, Collection}
+use Rattle.plain_site.specs.RestSpellings.{is_count}
+use Rattle.site_lives.specs.declared.lives.NewLife.{NewLife}
+use Rattle.site_lives.specs.Acquainted.{Acquainted}
+use Rattle.site_lives.specs.Things.{LastingThing, OfSite, OfLives, life_spelling, thing_spelling, is_new_life, is_thing, life_front, thing_rows, thing_front}
+use Rattle.site_lives.specs.Things.{are_things, all_spellings, replay_things}
+use Rattle.site_lives.specs.Bytes.{TakesBack}
+use Rattle.site_lives.specs.RestLaws.{OneWayBack}
+
+reads-count : Reads is_count u32_spelling (only_if (nat_le 1) u32_front)
+reads-count =
+    reads-only_if (nat_le 1) is_count (λ n h. and_parts (is_u32 n) (nat_le 1 n) h) (λ n h t. and_from (is_u32 n) (nat_le 1 n) h t) reads-u32
+
+reads-new-life : Reads is_new_life life_spelling life_front
+reads-new-life =
+    reads-made (λ p. record { number = p.0; life = p.1 }) (λ new. (new.number, new.life)) is_new_life life_spelling
+    (λ new h. refl) (λ p. refl) (λ p. refl) (reads-both reads-u16 reads-life)
+
+pub reads-thing : Reads is_thing thing_spelling thing_front
+reads-thing = record {
+  back = back;
+  only = by_code-only is_thing thing_spelling thing_rows (
+    row-made is_thing thing_spelling 1 (λ r. OfSite (News (State r))) reads-record (λ r h. h) (λ r. refl),
+    (
+      row-made is_thing thing_spelling 2 (λ c. OfSite (News (Promise c))) reads-consent (λ c h. h) (λ c. refl),
+      (
+        row-made is_thing thing_spelling 3 (λ n. OfSite (Collection n)) reads-count (λ n h. h) (λ n. refl),
+        (row-made is_thing thing_spelling 4 OfLives reads-new-life (λ new h. h) (λ new. refl), tt),
+      ),
+    ),
+  );
+  bytes = bytes;
+}
+  where
+    back : (t : LastingThing) (rest : List ℕ) → IsTrue (is_thing t) → thing_front (thing_spelling t ++ rest) ≡ Some (t, rest)
+    back (OfSite (News (State r))) rest h = made-back reads-record (λ r. OfSite (News (State r))) r rest h
+    back (OfSite (News (Promise c))) rest h = made-back reads-consent (λ c. OfSite (News (Promise c))) c rest h
+    back (OfSite (Collection n)) rest h = made-back reads-count (λ n. OfSite (Collection n)) n rest h
+    back (OfLives new) rest h = made-back reads-new-life OfLives new rest h
+
+    bytes : (t : LastingThing) → IsTrue (is_thing t) → IsTrue (are_bytes (thing_spelling t))
+    bytes (OfSite (News (State r))) h = reads-record.bytes r h
+    bytes (OfSite (News (Promise c))) h = reads-consent.bytes c h
+    bytes (OfSite (Collection n)) h = reads-count.bytes n h
+    bytes (OfLives new) h = reads-new-life.bytes new h
+
+-- ===== Several
+
+-- a spelling isn't empty
+starts : (t : LastingThing) (more : List ℕ) → [] ≡ thing_spelling t ++ more → ⊥
+starts (OfSite (News (State r))) more e = absurd (cc)
+starts (OfSite (News (Promise c))) more e = absurd (cc)
+starts (OfSite (Collection n)) more e = absurd (cc)
+starts (OfLives new) more e = absurd (cc)
+
+front-of-all : (t : LastingThing) (ts : List LastingThing) (bytes : List ℕ) → IsTrue (are_things (t ∷ ts)) → bytes ≡ all_spellings (t ∷ ts) →
+    thing_front bytes ≡ Some (t, all_spellings ts)
+front-of-all t ts bytes are is =
+    ap thing_front is ∙ reads-thing.back t (all_spellings ts) (and_parts (is_thing t) (are_things ts) are).0
+
+one-list : (bytes : List ℕ) (ts us : List LastingThing) → IsTrue (are_things ts) → IsTrue (are_things us) → bytes ≡ all_spellings ts →
+    bytes ≡ all_spellings us → ts ≡ us
+one-list bytes [] [] v w e f = refl
+one-list bytes [] (u ∷ us) v w e f = absurd (starts u (all_spellings us) (sym e ∙ f))
+one-list bytes (t ∷ ts) [] v w e f = absurd (starts t (all_spellings ts) (sym f ∙ e))
+one-list bytes (t ∷ ts) (u ∷ us) v w e f =
+    let same = some-parts t u (all_spellings ts) (all_spellings us) (sym (front-of-all t ts bytes v e) ∙ front-of-all u us bytes w f) in
+    let later = one-list (all_spellings ts) ts us (and_parts (is_thing t) (are_things ts) v).1 (and_parts (is_thing u) (are_things us) w).1 refl same.1 in
+    ap (λ k. k ∷ ts) same.0 ∙ ap (λ ks. u ∷ ks) later
+
+pub one-way-back : OneWayBack
+one-way-back a b c bytes first second =
+    first.replayed
+    ∙ (ap (λ ts. replay_things ts a) (one-list bytes first.things second.things first.are second.are first.spelled second.spelled) ∙ sym second.replayed)

@@ -1,0 +1,11 @@
+use Rattle.site_lives.proofs.Lasting.{site-is-replayed, site-fits, site-has-its-things}
+use Rattle.site_lives.proofs.lasting_laws.what_lasts_of_the_site_is_its_own.Goals as goal
+
+pub returns-clause-replayed : goal.returns-clause-replayed
+returns-clause-replayed c = site-is-replayed
+
+pub returns-clause-fits : goal.returns-clause-fits
+returns-clause-fits c = site-fits
+
+pub returns-clause-things : goal.returns-clause-things
+returns-clause-things c = site-has-its-things

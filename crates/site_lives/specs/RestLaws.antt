@@ -1,0 +1,85 @@
+-- What lasts of a site and of the lives that it knows, over whole trails; and that what lasts of the site is what lasts of it where it
+-- knows none, so that what is true of that is true here.
+use Rattle.std.specs.Prelude.{◌≡◌, ℕ, bytes_eq, List, [], ◌∷◌, ◌++◌, option_to_list, is_none, IsTrue, if◌then◌else◌}
+use Rattle.std.specs.List.{list_all}
+use Rattle.tardis_base.specs.Plain.{Event, Answers, no_memory}
+use Rattle.tardis_base.specs.Valid.{is_u16}
+use Rattle.plain_site.specs.Sound.{IsSound}
+use Rattle.plain_site.specs.Rest.{Lasting, replay, all_fit}
+use Rattle.rest_laws.specs.Trails.{lasting_of_answers}
+use Rattle.site_lives.specs.Lives.{life_of}
+use Rattle.site_lives.specs.Acquainted.{Acquainted, acquainted_machine}
+use Rattle.site_lives.specs.Laws.{others, replies_to_others}
+use Rattle.site_lives.specs.Things.{LastingThing, OfSite, OfLives, all_at_rest, thing_of_event, replay_things, all_things_fit, are_things}
+use Rattle.site_lives.specs.Bytes.{TakesBack}
+
+-- what lasts of events with these replies; where memory was wanting, nothing does
+abbrev pub things_of_answers : Acquainted → List Event → List (List ℕ) → List LastingThing
+things_of_answers a (event ∷ events) (reply ∷ replies) =
+    let later = things_of_answers (acquainted_machine.step a event) events replies in
+    let undone = things_of_answers a events replies in
+    if bytes_eq reply no_memory then undone else option_to_list (thing_of_event a event) ++ later
+things_of_answers a _ _ = []
+
+-- ===== The site's own
+
+-- what lasts of the site among other things
+abbrev pub of_site : List LastingThing → List Lasting
+of_site [] = []
+of_site (OfSite l ∷ ts) = l ∷ of_site ts
+of_site (OfLives new ∷ ts) = of_site ts
+
+-- the site becomes what its own things make of it, each of which fits
+abbrev pub SiteIsReplayed : Type 0
+SiteIsReplayed = (a : Acquainted) (ts : List LastingThing) → (replay_things ts a).site ≡ replay (of_site ts) a.site
+
+abbrev pub SiteFits : Type 0
+SiteFits = (a : Acquainted) (ts : List LastingThing) → IsTrue (all_things_fit a ts) → IsTrue (all_fit a.site (of_site ts))
+
+-- and what lasts of its trail is what lasts of that of the site alone, without the requests about lives
+abbrev pub SiteHasItsThings : Type 0
+SiteHasItsThings =
+    (a b : Acquainted) (events : List Event) (replies : List (List ℕ)) → Answers acquainted_machine a events replies b →
+    of_site (things_of_answers a events replies) ≡ lasting_of_answers a.site (others events) (replies_to_others events replies)
+
+-- ===== All of it
+
+-- however it was answered, what lasts of a trail leads to the site at rest behind it, with the lives that it knows then
+abbrev pub AllIsReplayed : Type 0
+AllIsReplayed =
+    (a b : Acquainted) (events : List Event) (replies : List (List ℕ)) → Answers acquainted_machine a events replies b →
+    replay_things (things_of_answers a events replies) (all_at_rest a) ≡ all_at_rest b
+
+-- a front of these events was answered with a front of these replies, and led to a site that is this one at rest
+pub record LedTo (a : Acquainted) (events : List Event) (replies : List (List ℕ)) (rest : Acquainted) : Type 0 where
+  pub done : List Event
+  pub undone : List Event
+  pub done_replies : List (List ℕ)
+  pub undone_replies : List (List ℕ)
+  pub state : Acquainted
+  pub events_are : events ≡ done ++ undone
+  pub replies_are : replies ≡ done_replies ++ undone_replies
+  pub answered : Answers acquainted_machine a done done_replies state
+  pub rests : all_at_rest state ≡ rest
+
+-- a front of what lasts of a trail leads to the site at rest behind a front of the trail
+abbrev pub FrontsAreOfFronts : Type 0
+FrontsAreOfFronts =
+    (a b : Acquainted) (events : List Event) (replies : List (List ℕ)) (kept lost : List LastingThing) → Answers acquainted_machine a events replies b →
+    things_of_answers a events replies ≡ kept ++ lost → LedTo a events replies (replay_things kept (all_at_rest a))
+
+-- no other life is known before the own one
+abbrev pub OwnCameFirst : Acquainted → Type 0
+OwnCameFirst a = IsTrue (is_none (life_of a.lives a.site.own)) → IsTrue (list_all is_none a.lives)
+
+-- what lasts of a trail may be taken back, and each front of it
+abbrev pub AllFits : Type 0
+AllFits =
+    (a b : Acquainted) (events : List Event) (replies : List (List ℕ)) (kept lost : List LastingThing) →
+    IsTrue (list_all (λ event. is_u16 event.0) events) → IsSound a.site → OwnCameFirst a → Answers acquainted_machine a events replies b →
+    things_of_answers a events replies ≡ kept ++ lost →
+    IsTrue (are_things kept) × IsTrue (all_things_fit (all_at_rest a) kept)
+
+-- bytes are taken back in one way at most
+abbrev pub OneWayBack : Type 0
+OneWayBack = (a b c : Acquainted) (bytes : List ℕ) → TakesBack a bytes b → TakesBack a bytes c → b ≡ c

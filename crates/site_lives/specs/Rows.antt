@@ -1,0 +1,41 @@
+-- Worked rows: what the first of two sites answers when it is to meet others.
+use Rattle.std.specs.Prelude.{◌≡◌, ℕ, List, [], ◌∷◌, map}
+use Rattle.plain_site.specs.Site.{opening}
+use Rattle.plain_site.specs.RowWords.{program_limits}
+use Rattle.plain_site.specs.RowByteWords.{hex, ByteLine, ◌sends◌=>◌}
+use Rattle.site_lives.specs.Acquainted.{Acquainted, unacquainted, acquainted_machine}
+
+-- the replies to the requests of these lines, one after another
+abbrev pub replies : Acquainted → List ByteLine → List (List ℕ)
+replies a [] = []
+replies a (line ∷ lines) =
+    let later = replies (acquainted_machine.step a (line.actor, line.request)) lines in
+    acquainted_machine.reply a (line.actor, line.request) ∷ later
+
+abbrev pub MeetingsAreAnswered : Type 0
+MeetingsAreAnswered =
+    let lines =
+        -- before its life began it meets nobody, and 15 bytes are no life
+        (0 sends hex "48 47 0002 0002 bbbbbbbbbbbbbbbbbbbbbbbbbbbbbbbb" => hex "48 05")
+        ∷ (0 sends hex "49 aaaaaaaaaaaaaaaaaaaaaaaaaaaaaa" => hex "49 05")
+        -- it begins once
+        ∷ (0 sends hex "49 aaaaaaaaaaaaaaaaaaaaaaaaaaaaaaaa" => hex "49 00")
+        ∷ (0 sends hex "49 aaaaaaaaaaaaaaaaaaaaaaaaaaaaaaab" => hex "49 01")
+        -- the second site is met, and met again, and met with no other life
+        ∷ (0 sends hex "48 47 0002 0002 bbbbbbbbbbbbbbbbbbbbbbbbbbbbbbbb" => hex "48 00")
+        ∷ (0 sends hex "48 47 0002 0002 bbbbbbbbbbbbbbbbbbbbbbbbbbbbbbbb" => hex "48 00")
+        ∷ (0 sends hex "48 47 0002 0002 cccccccccccccccccccccccccccccccc" => hex "48 01")
+        -- its own number, be it with its own life; one of three sites
+        ∷ (0 sends hex "48 47 0001 0002 aaaaaaaaaaaaaaaaaaaaaaaaaaaaaaaa" => hex "48 02")
+        ∷ (0 sends hex "48 47 0002 0003 bbbbbbbbbbbbbbbbbbbbbbbbbbbbbbbb" => hex "48 03")
+        -- the third of two sites, the site 0, another code, and bytes left over
+        ∷ (0 sends hex "48 47 0003 0002 bbbbbbbbbbbbbbbbbbbbbbbbbbbbbbbb" => hex "48 04")
+        ∷ (0 sends hex "48 47 0000 0002 bbbbbbbbbbbbbbbbbbbbbbbbbbbbbbbb" => hex "48 04")
+        ∷ (0 sends hex "48 46 0002 0002 bbbbbbbbbbbbbbbbbbbbbbbbbbbbbbbb" => hex "48 04")
+        ∷ (0 sends hex "48 47 0002 0002 bbbbbbbbbbbbbbbbbbbbbbbbbbbbbbbb 00" => hex "48 04")
+        ∷ (0 sends hex "48" => hex "48 04")
+        -- all others are the site's to answer: an Open, and the question who it is, which is none to it
+        ∷ (1 sends hex "01 00" => hex "01 0000 00000000")
+        ∷ (0 sends hex "47" => hex "15 01")
+        ∷ [] in
+    replies (unacquainted (opening (program_limits 2) 1)) lines ≡ map (λ line. line.reply) lines

@@ -1,0 +1,26 @@
+//! Laws of what lasts of a site and of the lives that it knows. Each call does nothing.
+
+ghost use Rattle.site_lives.specs.RestLaws.{SiteIsReplayed, SiteFits, SiteHasItsThings, AllIsReplayed, FrontsAreOfFronts, AllFits, OneWayBack};
+
+use wire_lives::introductions_have_one_spelling;
+use wire_talk::talk_has_one_spelling;
+
+/// What lasts of the site is what lasts of it where it knows no lives, and leads it to where that leads. So all that is true of
+/// that (`rest_laws`) is true here.
+pub fn what_lasts_of_the_site_is_its_own()
+    ensures replayed { SiteIsReplayed }
+    ensures fits { SiteFits }
+    ensures things { SiteHasItsThings }
+{}
+
+/// What lasts of a whole trail leads to the site at rest behind it, with the lives that it knows then, and a front of it to where a
+/// front of the trail does. It may be taken back, and each front of it; and bytes are taken back in one way at most.
+pub fn lives_last_beside_the_site()
+    ensures replayed { AllIsReplayed }
+    ensures fronts { FrontsAreOfFronts }
+    ensures fits { AllFits }
+    ensures one { OneWayBack }
+{
+    talk_has_one_spelling();
+    introductions_have_one_spelling();
+}

@@ -1,0 +1,14 @@
+//! What a site knows of lives: its own, and that of each site that it met; and how it meets others.
+//!
+//! The rules are stated in `docs/MODEL.md`, 'Lives'.
+#![tactic(auto)]
+
+mod lasting_laws;
+mod laws;
+mod lives;
+mod rows;
+
+pub use lasting_laws::{lives_last_beside_the_site, what_lasts_of_the_site_is_its_own};
+pub use laws::{meetings_leave_the_site, one_life_is_met_of_each_site};
+pub use lives::{Lives, NewLife, is_of_lives};
+pub use rows::meetings_are_answered;

@@ -1,0 +1,3 @@
+-- How introductions are read.
+pub mod Laws
+mod Read

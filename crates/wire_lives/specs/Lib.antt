@@ -1,0 +1,4 @@
+-- How sites introduce themselves, in bytes.
+pub mod Spellings
+pub mod Readings
+pub mod Laws
