@@ -5,7 +5,7 @@ use Rattle.tardis_base.specs.Plain.{Event, PlainMachine, Answers, no_memory}
 use Rattle.hub.specs.Settlings.{PlainSettling, behind_doors}
 use Rattle.hub.specs.Answering.{asks}
 use Rattle.hub.specs.Talks.{Talk}
-use Rattle.hub.specs.Turns.{Turn, Rested, Opened, Missed, TurnedAway, Received, Sent, Ended, KeptUp, Settled, talk}
+use Rattle.hub.specs.Turns.{Turn, Rested, Opened, Missed, TurnedAway, Received, Sent, Ended, KeptUp, Settled, PeerDid, talk}
 use Rattle.hub.specs.Runs.{close, Ran, Leads, AnswersTo}
 use Rattle.hub.specs.Doors.{DoorRules, seen_through}
 use Rattle.hub.specs.DoorLaws.{Entry, with_replies, door_of, entries_of, entries, is_let_in, let_in, IsReply, IsTrail, IsAnsweredAt}
@@ -138,6 +138,9 @@ turn_goes w m rules shows seen older u (Ended slot) t p =
 turn_goes w m rules shows seen older u (KeptUp bodies replies) t p =
     goes_within m rules 0 (shows u) bodies replies (shows t)
     (answers_shown w.machine m shows seen.within.step seen.within.reply seen.within.is_sure u (asks 0 bodies) replies t p)
+turn_goes w m rules shows seen older u (PeerDid peer offered did) t p =
+    goes_within m rules 0 (shows u) did.bodies did.replies (shows t)
+    (answers_shown w.machine m shows seen.within.step seen.within.reply seen.within.is_sure u (asks 0 did.bodies) did.replies t p.1)
 turn_goes w m rules shows seen older u Settled t p = ap shows p ∙ seen.within.settled u
 
 run_goes : {S P : Type 0} (w : PlainSettling S) (m : PlainMachine P) (rules : DoorRules P) (shows : S → P) → IsSeenBehind w m rules shows →

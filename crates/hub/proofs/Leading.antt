@@ -1,10 +1,16 @@
 -- A run from its start to its end.
 use Rattle.std.proofs.Common.{◌≡◌, ℕ, ◌+◌, ◌-◌, inl, inr, List, [], ◌∷◌, ◌++◌, Option, Some, None, refl, sym, ap, ◌∙◌, subst, arith, append_assoc}
-use Rattle.std.specs.Prelude.{Bool, true, false, ◌||◌, nat_le, if◌then◌else◌}
+use Rattle.std.specs.Prelude.{Bool, true, false, ◌||◌, ◌*◌, ◌<◌, nat_le, length, slice_get, IfSome, if◌then◌else◌}
+use Rattle.std.proofs.lemmas.Option.{slice_get_cases, slice_get_within}
 use Rattle.std.specs.Option.{option_map}
 use Rattle.std.proofs.lemmas.List.{append-nil}
 use Rattle.hub.specs.declared.ports.Ready.{Ready}
-use Rattle.hub.specs.declared.ports.Ready.TheVariants.{Write, Stop}
+use Rattle.site_peers.specs.declared.peers.Peer.{Peer}
+use Rattle.site_peers.specs.Moves.{fresh, waiting}
+use Rattle.site_peers.specs.Runs.{Went}
+use Rattle.hub.specs.declared.ports.Fetches.{Fetches}
+use Rattle.hub.specs.declared.ports.PeerNews.TheVariants.{Time as TheTime, Through as ItIsThrough, Over as ItIsOver, Read as MayRead, Write as MayWrite}
+use Rattle.hub.specs.declared.ports.Ready.TheVariants.{Accept, Read, Write, Close, Peer as OfPeer, Stop}
 use Rattle.hub.specs.declared.ports.Seen.{Seen}
 use Rattle.hub.specs.declared.ports.Seen.TheVariants.{Offered}
 use Rattle.hub.specs.declared.serves.End.TheVariants.{Stopped, Spent, Unsettled}
@@ -13,10 +19,10 @@ use Rattle.hub.specs.Connections.{ConnectionState, connection_at}
 use Rattle.hub.specs.Telling.{Tells}
 use Rattle.hub.specs.Upkeeps.{UpkeepRule, TallyState, first_tally, noted, passed, paid, due_by, due_under, ends_with}
 use Rattle.hub.specs.Answering.{Asked}
-use Rattle.hub.specs.Turns.{Turn, Rested, Opened, Missed, TurnedAway, Received, Sent, Ended, KeptUp, Settled, talk, calls_of, calls_in}
+use Rattle.hub.specs.Turns.{Turn, Rested, Opened, Missed, TurnedAway, Received, Sent, Ended, KeptUp, Settled, PeerDid, talk, turns_of, IsPeer, ArePeers, calls_of, calls_in}
 use Rattle.hub.specs.Timing.{unpaid, has_backlog, due, IsTimely, AreTimely}
-use Rattle.hub.specs.Runs.{counts, count_of, IsRun}
-use Rattle.hub.specs.Keeping.{Fits, IsNoted, IsTally, AreBefore, GoesOn, Turned, IsUnsettled, Led}
+use Rattle.hub.specs.Runs.{counts, count_of, IsWanted, IsRun}
+use Rattle.hub.specs.Keeping.{Fits, Keeps, IsNoted, IsTally, AreBefore, WentOn, IsToldBehind, IsTold, GoesOn, FetchesOn, Turned, PeerWaits, HasWaiting, IsUnsettled, Led}
 use Rattle.hub.proofs.Holding.{each_talk}
 use Rattle.hub.proofs.Turning.{tells_none, waits_at}
 
@@ -39,29 +45,60 @@ pub tells_lost : (o n : Option (List Seen)) (calls : List Seen) → n ≡ None �
 tells_lost o n calls none = subst (λ z. Tells o z calls) (sym none) (tells_no_more o calls)
 
 -- an offer, and what was done of it
-pub turned : {S : Type 0} (w : PlainSettling S) (from to : S → Type 0) (old new : List (Option ConnectionState)) (offer : Ready) (tally next : TallyState)
-    (a b c : Option (List Seen)) → Tells a b (Offered offer ∷ []) → GoesOn w from to old new offer tally next b c → Turned w from to old new tally next a c
-turned w from to old new offer tally next a b c p goes s turns keeps =
-    let on = goes s turns keeps in
-    record {
-      earlier = on.earlier;
-      behind = on.behind;
-      turn = on.turn;
-      keeps = on.keeps;
-      noted = on.noted;
-      told = subst (λ calls. Tells a c calls) (sym on.told.1.0) (tells_then a b c (Offered offer ∷ []) on.told.0 p on.told.1.1);
-    }
+wholly : {S : Type 0} (w : PlainSettling S) (fetches : Fetches) (to : S → Type 0) (s : S) (connections : List (Option ConnectionState)) (peers : List Peer)
+    (turns : List Turn) (offer : Ready) (tally next : TallyState) (a b c : Option (List Seen)) → Tells a b (Offered offer ∷ []) →
+    WentOn w fetches to s connections peers turns tally next (IsToldBehind offer b c) → WentOn w fetches to s connections peers turns tally next (IsTold a c)
+wholly w fetches to s connections peers turns offer tally next a b c p on = record {
+  earlier = on.earlier;
+  behind = on.behind;
+  turn = on.turn;
+  keeps = on.keeps;
+  noted = on.noted;
+  told = subst (λ calls. Tells a c calls) (sym on.told.1.0) (tells_then a b c (Offered offer ∷ []) on.told.0 p on.told.1.1);
+}
+
+pub turned : {S : Type 0} (w : PlainSettling S) (from to : S → Type 0) (old new : List (Option ConnectionState)) (peers : List Peer) (offer : Ready)
+    (tally next : TallyState) (a b c : Option (List Seen)) → Tells a b (Offered offer ∷ []) → GoesOn w from to old new offer tally next b c →
+    Turned w from to old new peers peers tally next a c
+turned w from to old new peers offer tally next a b c p goes fetches s turns keeps =
+    wholly w fetches to s new peers turns offer tally next a b c p (goes fetches peers s turns keeps)
+
+pub fetched : {S : Type 0} (w : PlainSettling S) (from to : S → Type 0) (connections : List (Option ConnectionState)) (old new : List Peer) (offer : Ready)
+    (tally next : TallyState) (a b c : Option (List Seen)) → Tells a b (Offered offer ∷ []) → FetchesOn w from to old new offer tally next b c →
+    Turned w from to connections connections old new tally next a c
+fetched w from to connections old new offer tally next a b c p goes fetches s turns keeps =
+    wholly w fetches to s connections new turns offer tally next a b c p (goes fetches connections s turns keeps)
 
 -- no turn yet
 tally_start : (rule : Option UpkeepRule) → IsTally rule (first_tally rule) []
 tally_start None = refl
 tally_start (Some rule) = refl
 
-pub led_start : {S : Type 0} (w : PlainSettling S) (rule : Option UpkeepRule) (from : S → Type 0) (s : S) (connections : List (Option ConnectionState)) (tally : TallyState)
-    (a : Option (List Seen)) → from s → ((n : ℕ) → connection_at connections n ≡ None) → tally ≡ first_tally rule → Led w rule from s connections tally a a 0
-led_start w rule from s connections tally a f free whole = record {
+-- the peers are fresh
+each_fresh : (fetches : Fetches) (peers : List Peer) → length peers ≡ fetches.peers →
+    ((n : ℕ) → n < fetches.peers → slice_get peers n ≡ Some (fresh (1000 * fetches.seconds))) → (n : ℕ) →
+    IfSome (slice_get peers n) (Went (1000 * fetches.seconds) [])
+each_fresh fetches peers many all n = elim (slice_get_cases peers n).1 [
+  | inl found ↦ subst (λ o. IfSome o (Went (1000 * fetches.seconds) [])) (sym (all n (omega (arith, many, found.1)))) refl
+  | inr past ↦ subst (λ o. IfSome o (Went (1000 * fetches.seconds) [])) (sym past.1) tt
+]
+
+pub led_start : {S : Type 0} (w : PlainSettling S) (rule : Option UpkeepRule) (fetches : Fetches) (from : S → Type 0) (s : S)
+    (connections : List (Option ConnectionState)) (peers : List Peer) (tally : TallyState)
+    (a : Option (List Seen)) → from s → ((n : ℕ) → connection_at connections n ≡ None) → length peers ≡ fetches.peers →
+    ((n : ℕ) → n < fetches.peers → slice_get peers n ≡ Some (fresh (1000 * fetches.seconds))) → tally ≡ first_tally rule →
+    Led w rule fetches from s connections peers tally a a 0
+led_start w rule fetches from s connections peers tally a f free many all whole = record {
   turns = [];
-  keeps = record { state = s; ran = refl; stands = f; served = tt; fits = λ n. subst (λ l. Fits None l) (sym (free n)) tt };
+  keeps = record {
+    state = s;
+    ran = refl;
+    stands = f;
+    served = tt;
+    fits = λ n. subst (λ l. Fits None l) (sym (free n)) tt;
+    many = many;
+    went = each_fresh fetches peers many all;
+  };
   seen = tells_none a;
   many = refl;
   timely = tt;
@@ -109,6 +146,7 @@ timely_more rule tally next older TurnedAway p none = none
 timely_more rule tally next older (Received slot room came bodies replies) p none = none
 timely_more rule tally next older (Sent slot offered wrote bodies replies) p none = none
 timely_more rule tally next older (Ended slot) p none = none
+timely_more rule tally next older (PeerDid peer offered t) p none = none
 timely_more rule tally next older (KeptUp bodies replies) p none = absurd p
 timely_more rule tally next older Settled p none = absurd p
 
@@ -122,6 +160,7 @@ tally_more None tally next older TurnedAway is p = ap (λ t. t.rule) p ∙ is
 tally_more None tally next older (Received slot room came bodies replies) is p = ap (λ t. t.rule) p ∙ is
 tally_more None tally next older (Sent slot offered wrote bodies replies) is p = ap (λ t. t.rule) p ∙ is
 tally_more None tally next older (Ended slot) is p = ap (λ t. t.rule) p ∙ is
+tally_more None tally next older (PeerDid peer offered t) is p = ap (λ t. t.rule) p ∙ is
 tally_more None tally next older (KeptUp bodies replies) is p = absurd p
 tally_more None tally next older Settled is p = absurd p
 tally_more (Some rule) tally next older (Rested offer) is p = ap passed (p ∙ is)
@@ -131,6 +170,7 @@ tally_more (Some rule) tally next older TurnedAway is p = ap passed (p ∙ is)
 tally_more (Some rule) tally next older (Received slot room came bodies replies) is p = ap passed (p ∙ ap (λ t. noted t replies) is)
 tally_more (Some rule) tally next older (Sent slot offered wrote bodies replies) is p = ap passed (p ∙ ap (λ t. noted t replies) is)
 tally_more (Some rule) tally next older (Ended slot) is p = ap passed (p ∙ is)
+tally_more (Some rule) tally next older (PeerDid peer offered t) is p = ap passed (p ∙ ap (λ tally. noted tally t.replies) is)
 tally_more (Some rule) tally next older (KeptUp bodies replies) is p = absurd p
 tally_more (Some rule) tally next older Settled is p = absurd p
 
@@ -142,6 +182,7 @@ counts_one tally next TurnedAway p = refl
 counts_one tally next (Received slot room came bodies replies) p = refl
 counts_one tally next (Sent slot offered wrote bodies replies) p = refl
 counts_one tally next (Ended slot) p = refl
+counts_one tally next (PeerDid peer offered t) p = refl
 counts_one tally next (KeptUp bodies replies) p = absurd p
 counts_one tally next Settled p = absurd p
 
@@ -190,11 +231,12 @@ kept_tally rule other tally next more bodies replies older same is pays says =
     (kept_under other tally next more bodies replies older (subst (λ r. IsTally r tally older) same is) pays says)
 
 -- one turn of the edge more
-pub led_more : {S : Type 0} (w : PlainSettling S) (rule : Option UpkeepRule) (from to : S → Type 0) (s : S) (old new : List (Option ConnectionState))
-    (tally next later : TallyState) (a b c : Option (List Seen)) (count : ℕ) → Led w rule from s old tally a b count → due_by tally ≡ None →
-    Turned w from to old new tally next b c → later ≡ passed next → Led w rule to s new later a c (count + 1)
-led_more w rule from to s old new tally next later a b c count led none goes passes =
-    let on = goes s led.turns led.keeps in
+pub led_more : {S : Type 0} (w : PlainSettling S) (rule : Option UpkeepRule) (fetches : Fetches) (from to : S → Type 0) (s : S)
+    (old new : List (Option ConnectionState)) (old_peers new_peers : List Peer)
+    (tally next later : TallyState) (a b c : Option (List Seen)) (count : ℕ) → Led w rule fetches from s old old_peers tally a b count → due_by tally ≡ None →
+    Turned w from to old new old_peers new_peers tally next b c → later ≡ passed next → Led w rule fetches to s new new_peers later a c (count + 1)
+led_more w rule fetches from to s old new old_peers new_peers tally next later a b c count led none goes passes =
+    let on = goes fetches s led.turns led.keeps in
     let behind = behind_is rule tally led.turns on.earlier on.behind led.timely led.tallied (due_none rule tally led.turns led.tallied none) in
     let one : counts on.turn ≡ 1 = counts_one tally next on.turn on.noted in
     record {
@@ -208,11 +250,12 @@ led_more w rule from to s old new tally next later a b c count led none goes pas
     }
 
 -- an upkeep more
-pub led_kept : {S : Type 0} (w : PlainSettling S) (rule : Option UpkeepRule) (from to : S → Type 0) (s : S) (connections : List (Option ConnectionState))
-    (tally next : TallyState) (a b : Option (List Seen)) (count : ℕ) (other : UpkeepRule) (more : Bool) → Led w rule from s connections tally a b count →
+pub led_kept : {S : Type 0} (w : PlainSettling S) (rule : Option UpkeepRule) (fetches : Fetches) (from to : S → Type 0) (s : S)
+    (connections : List (Option ConnectionState)) (peers : List Peer)
+    (tally next : TallyState) (a b : Option (List Seen)) (count : ℕ) (other : UpkeepRule) (more : Bool) → Led w rule fetches from s connections peers tally a b count →
     due_by tally ≡ Some other → next ≡ paid tally other.after more → ((u : S) → from u → Asked w.machine to other.requests other.full more u) →
-    Led w rule to s connections next a b (count + 1)
-led_kept w rule from to s connections tally next a b count other more led is pays asked =
+    Led w rule fetches to s connections peers next a b (count + 1)
+led_kept w rule fetches from to s connections peers tally next a b count other more led is pays asked =
     let k = asked led.keeps.state led.keeps.stands in
     record {
       turns = KeptUp other.requests k.replies ∷ led.turns;
@@ -222,6 +265,8 @@ led_kept w rule from to s connections tally next a b count other more led is pay
         stands = k.stands;
         served = (tt, (λ n. each_talk (talk n led.turns) (connection_at connections n) (led.keeps.fits n), led.keeps.served));
         fits = led.keeps.fits;
+        many = led.keeps.many;
+        went = led.keeps.went;
       };
       seen = subst (λ calls. Tells a b calls) (sym (append-nil (calls_in led.turns))) led.seen;
       many = omega (arith, led.many);
@@ -229,16 +274,57 @@ led_kept w rule from to s connections tally next a b count other more led is pay
       tallied = kept_tally rule other tally next more other.requests k.replies led.turns (due_rule rule tally led.turns other led.tallied is) led.tallied pays k.says;
     }
 
+-- each peer is as its turns led to it
+pub peers_are : {S : Type 0} (w : PlainSettling S) (fetches : Fetches) (to : S → Type 0) (s : S) (connections : List (Option ConnectionState)) (peers : List Peer)
+    (turns : List Turn) → Keeps w fetches to s connections peers turns → ArePeers fetches turns
+peers_are w fetches to s connections peers turns keeps n within = elim (slice_get_cases peers n).1 [
+  | inl found ↦ (
+    found.0,
+    record { is_one = within; went = subst (λ o. IfSome o (Went (1000 * fetches.seconds) (turns_of n turns))) found.2 (keeps.went n) },
+  )
+  | inr past ↦ absurd (omega (arith, within, past.0, keeps.many))
+]
+
+-- bytes wait for whom they were offered
+waits_for : {S : Type 0} (w : PlainSettling S) (fetches : Fetches) (to : S → Type 0) (s : S) (connections : List (Option ConnectionState)) (peers : List Peer)
+    (turns : List Turn) (n : ℕ) → Keeps w fetches to s connections peers turns → (o : Option Peer) → slice_get peers n ≡ o → PeerWaits o →
+    (p : Peer) × IsPeer fetches turns n p × (0 < length (waiting p.moment))
+waits_for w fetches to s connections peers turns n keeps None e more = absurd more
+waits_for w fetches to s connections peers turns n keeps (Some p) e more = (
+  p,
+  record {
+    is_one = let within = slice_get_within peers n p e in omega (arith, within, keeps.many);
+    went = subst (λ o. IfSome o (Went (1000 * fetches.seconds) (turns_of n turns))) e (keeps.went n);
+  },
+  more,
+)
+
+pub is_wanted : {S : Type 0} (w : PlainSettling S) (fetches : Fetches) (to : S → Type 0) (s : S) (connections : List (Option ConnectionState)) (peers : List Peer)
+    (turns : List Turn) → Keeps w fetches to s connections peers turns → (offer : Ready) → HasWaiting connections peers offer → IsWanted fetches turns offer
+is_wanted w fetches to s connections peers turns keeps (Write slot) more = waits_at (talk slot turns) (connection_at connections slot) (keeps.fits slot) more
+is_wanted w fetches to s connections peers turns keeps (OfPeer n now MayWrite) more =
+    waits_for w fetches to s connections peers turns n keeps (slice_get peers n) refl more
+is_wanted w fetches to s connections peers turns keeps (OfPeer n now TheTime) more = absurd more
+is_wanted w fetches to s connections peers turns keeps (OfPeer n now ItIsThrough) more = absurd more
+is_wanted w fetches to s connections peers turns keeps (OfPeer n now ItIsOver) more = absurd more
+is_wanted w fetches to s connections peers turns keeps (OfPeer n now MayRead) more = absurd more
+is_wanted w fetches to s connections peers turns keeps Accept more = absurd more
+is_wanted w fetches to s connections peers turns keeps (Read slot) more = absurd more
+is_wanted w fetches to s connections peers turns keeps (Close slot) more = absurd more
+is_wanted w fetches to s connections peers turns keeps Stop more = absurd more
+
 -- the edge said stop
-pub run_stopped : {S : Type 0} (w : PlainSettling S) (rule : Option UpkeepRule) (to : S → Type 0) (s : S) (connections : List (Option ConnectionState)) (tally : TallyState)
-    (a b c : Option (List Seen)) (count : ℕ) → Led w rule to s connections tally a b count → due_by tally ≡ None → Tells b c (Offered Stop ∷ []) →
-    IsRun w rule to s Stopped a c
-run_stopped w rule to s connections tally a b c count led none stop = record {
+pub run_stopped : {S : Type 0} (w : PlainSettling S) (rule : Option UpkeepRule) (fetches : Fetches) (to : S → Type 0) (s : S)
+    (connections : List (Option ConnectionState)) (peers : List Peer) (tally : TallyState)
+    (a b c : Option (List Seen)) (count : ℕ) → Led w rule fetches to s connections peers tally a b count → due_by tally ≡ None → Tells b c (Offered Stop ∷ []) →
+    IsRun w rule fetches to s Stopped a c
+run_stopped w rule fetches to s connections peers tally a b c count led none stop = record {
   turns = led.turns;
   state = led.keeps.state;
   ran = led.keeps.ran;
   stands = led.keeps.stands;
   served = led.keeps.served;
+  fetched = peers_are w fetches to s connections peers led.turns led.keeps;
   last = Offered Stop ∷ [];
   seen = tells_then a b c (calls_in led.turns) (Offered Stop ∷ []) led.seen stop;
   timely = led.timely;
@@ -246,14 +332,17 @@ run_stopped w rule to s connections tally a b c count led none stop = record {
 }
 
 -- as many turns were made as may be
-pub run_spent : {S : Type 0} (w : PlainSettling S) (rule : Option UpkeepRule) (to : S → Type 0) (s : S) (connections : List (Option ConnectionState)) (tally : TallyState)
-    (a b : Option (List Seen)) (count : ℕ) → Led w rule to s connections tally a b count → count ≡ 18446744073709551615 → IsRun w rule to s Spent a b
-run_spent w rule to s connections tally a b count led all = record {
+pub run_spent : {S : Type 0} (w : PlainSettling S) (rule : Option UpkeepRule) (fetches : Fetches) (to : S → Type 0) (s : S)
+    (connections : List (Option ConnectionState)) (peers : List Peer) (tally : TallyState)
+    (a b : Option (List Seen)) (count : ℕ) → Led w rule fetches to s connections peers tally a b count → count ≡ 18446744073709551615 →
+    IsRun w rule fetches to s Spent a b
+run_spent w rule fetches to s connections peers tally a b count led all = record {
   turns = led.turns;
   state = led.keeps.state;
   ran = led.keeps.ran;
   stands = led.keeps.stands;
   served = led.keeps.served;
+  fetched = peers_are w fetches to s connections peers led.turns led.keeps;
   last = [];
   seen = tells_then a b b (calls_in led.turns) [] led.seen (tells_none b);
   timely = led.timely;
@@ -261,23 +350,29 @@ run_spent w rule to s connections tally a b count led all = record {
 }
 
 -- what was answered couldn't be settled
-pub run_unsettled : {S : Type 0} (w : PlainSettling S) (rule : Option UpkeepRule) (from to : S → Type 0) (s : S) (connections : List (Option ConnectionState))
-    (tally : TallyState) (a b c : Option (List Seen)) (count : ℕ) → Led w rule from s connections tally a b count → due_by tally ≡ None →
-    IsUnsettled from to connections b c → IsRun w rule to s Unsettled a c
-run_unsettled w rule from to s connections tally a b c count led none unsettled =
-    let slot = unsettled.1.0 in
+pub run_unsettled : {S : Type 0} (w : PlainSettling S) (rule : Option UpkeepRule) (fetches : Fetches) (from to : S → Type 0) (s : S)
+    (connections : List (Option ConnectionState)) (peers : List Peer)
+    (tally : TallyState) (a b c : Option (List Seen)) (count : ℕ) → Led w rule fetches from s connections peers tally a b count → due_by tally ≡ None →
+    IsUnsettled from to connections peers b c → IsRun w rule fetches to s Unsettled a c
+run_unsettled w rule fetches from to s connections peers tally a b c count led none unsettled =
+    let offer = unsettled.1.0 in
     record {
       turns = led.turns;
       state = led.keeps.state;
       ran = led.keeps.ran;
       stands = unsettled.0 led.keeps.state led.keeps.stands;
       served = led.keeps.served;
-      last = Offered (Write slot) ∷ [];
-      seen = tells_then a b c (calls_in led.turns) (Offered (Write slot) ∷ []) led.seen unsettled.1.1.1;
+      fetched = peers_are w fetches from s connections peers led.turns led.keeps;
+      last = Offered offer ∷ [];
+      seen = tells_then a b c (calls_in led.turns) (Offered offer ∷ []) led.seen unsettled.1.1.1;
       timely = led.timely;
       ended = (
-        slot,
-        (refl, waits_at (talk slot led.turns) (connection_at connections slot) (led.keeps.fits slot) unsettled.1.1.0, due_none rule tally led.turns led.tallied none),
+        offer,
+        (
+          refl,
+          is_wanted w fetches from s connections peers led.turns led.keeps offer unsettled.1.1.0,
+          due_none rule tally led.turns led.tallied none,
+        ),
       );
     }
 

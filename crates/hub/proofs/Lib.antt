@@ -2,6 +2,9 @@
 mod Serving
 mod Holding
 mod Turning
+mod Goings
+mod Counting
 mod Leading
 mod Trails
 mod DoorTrails
+mod PeerTurns

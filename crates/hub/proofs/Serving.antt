@@ -12,7 +12,7 @@ use Rattle.frame_cut.specs.Frames.{frame, frames, IsBody, Cuts}
 use Rattle.frame_cut.proofs.Joins.{frames-append, more_bodies}
 use Rattle.frame_cut.proofs.Words.{length-frame}
 use Rattle.tardis_base.specs.Sizes.{piece, longest_framed}
-use Rattle.hub.specs.Upkeeps.{UpkeepRule, TallyState, begins_with_one_of, counted_by, ends_with, noted}
+use Rattle.hub.specs.Upkeeps.{UpkeepRule, TallyState, is_counted, counted_by, ends_with, noted}
 use Rattle.hub.specs.Answering.{asks, Replied, Answered, Serves, Asked}
 use Rattle.hub.specs.Connections.{IsStopped}
 
@@ -62,10 +62,10 @@ frames_one replies reply = frames-append replies (reply ∷ []) ∙ ap (λ z. fr
 counted_append : (rule : Option UpkeepRule) (xs ys : List (List ℕ)) → counted_by rule (xs ++ ys) ≡ counted_by rule xs + counted_by rule ys
 counted_append None xs ys = refl
 counted_append (Some rule) xs ys =
-    ap length (filter-append (begins_with_one_of rule.codes) xs ys)
-    ∙ length-append (filter (begins_with_one_of rule.codes) xs) (filter (begins_with_one_of rule.codes) ys)
+    ap length (filter-append (is_counted rule.codes) xs ys)
+    ∙ length-append (filter (is_counted rule.codes) xs) (filter (is_counted rule.codes) ys)
 
-noted_more : (tally mid next : TallyState) (xs ys : List (List ℕ)) → mid ≡ noted tally xs → next ≡ noted mid ys → next ≡ noted tally (xs ++ ys)
+pub noted_more : (tally mid next : TallyState) (xs ys : List (List ℕ)) → mid ≡ noted tally xs → next ≡ noted mid ys → next ≡ noted tally (xs ++ ys)
 noted_more tally mid next xs ys p q =
     let sum : counted_by tally.rule (xs ++ ys) ≡ counted_by tally.rule xs + counted_by tally.rule ys = counted_append tally.rule xs ys in
     let all : (tally.count + counted_by tally.rule xs) + counted_by tally.rule ys ≡ tally.count + counted_by tally.rule (xs ++ ys) = omega (arith, sum) in

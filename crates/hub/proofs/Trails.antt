@@ -4,7 +4,7 @@ use Rattle.tardis_base.specs.Plain.{Event, PlainMachine, Answers, no_memory}
 use Rattle.hub.specs.Settlings.{PlainSettling, in_memory}
 use Rattle.hub.specs.Answering.{asks}
 use Rattle.hub.specs.Talks.{Talk}
-use Rattle.hub.specs.Turns.{Turn, Rested, Opened, Missed, TurnedAway, Received, Sent, Ended, KeptUp, Settled, talk}
+use Rattle.hub.specs.Turns.{Turn, Rested, Opened, Missed, TurnedAway, Received, Sent, Ended, KeptUp, Settled, PeerDid, talk}
 use Rattle.hub.specs.Runs.{close, Ran, Leads, AnswersTo}
 use Rattle.hub.specs.Laws.{IsSeenAs, trail, requests_of}
 use Rattle.hub.proofs.Serving.{answers_append}
@@ -52,6 +52,8 @@ turn_answers w m shows seen lets_all older u (Sent slot offered wrote bodies rep
 )
 turn_answers w m shows seen lets_all older u (Ended slot) t p = (m.reply (shows u) (slot + 1, close) ∷ [], inl (refl, ap shows p ∙ seen.step u (slot + 1, close)))
 turn_answers w m shows seen lets_all older u (KeptUp bodies replies) t p = (replies, answers_seen w m shows seen u (asks 0 bodies) replies t p)
+turn_answers w m shows seen lets_all older u (PeerDid peer offered did) t p =
+    (did.replies, answers_seen w m shows seen u (asks 0 did.bodies) did.replies t p.1)
 turn_answers w m shows seen lets_all older u Settled t p = ([], ap shows p ∙ seen.settled u)
 
 pub one_trail : {S P : Type 0} (w : PlainSettling S) (m : PlainMachine P) (shows : S → P) → IsSeenAs w m shows →

@@ -5,7 +5,7 @@ use Rattle.tardis_base.specs.Plain.{Event, PlainMachine, Answers, no_memory}
 use Rattle.hub.specs.Settlings.{PlainSettling}
 use Rattle.hub.specs.Doors.{DoorRules, seen_through}
 use Rattle.hub.specs.Talks.{Talk}
-use Rattle.hub.specs.Turns.{Turn, Received, Sent, Ended, KeptUp, talk}
+use Rattle.hub.specs.Turns.{Turn, Received, Sent, Ended, KeptUp, PeerDid, talk}
 use Rattle.hub.specs.Runs.{close, Ran}
 use Rattle.hub.specs.Laws.{IsSeenAs}
 
@@ -32,6 +32,7 @@ entries_of older (Received slot room came bodies replies) = with_replies (door_o
 entries_of older (Sent slot offered wrote bodies replies) = with_replies (door_of (talk slot older)) (slot + 1) bodies replies
 entries_of older (Ended slot) = record { door = None; event = (slot + 1, close); reply = None } ∷ []
 entries_of older (KeptUp bodies replies) = with_replies None 0 bodies replies
+entries_of older (PeerDid peer offered t) = with_replies None 0 t.bodies t.replies
 entries_of older _ = []
 
 -- all requests of turns, oldest first

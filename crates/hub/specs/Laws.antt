@@ -3,7 +3,7 @@ use Rattle.std.specs.Prelude.{◌≡◌, ℕ, ◌+◌, List, [], ◌∷◌, ◌+
 use Rattle.tardis_base.specs.Plain.{Event, PlainMachine, Answers}
 use Rattle.hub.specs.Settlings.{PlainSettling}
 use Rattle.hub.specs.Answering.{asks}
-use Rattle.hub.specs.Turns.{Turn, Received, Sent, Ended, KeptUp}
+use Rattle.hub.specs.Turns.{Turn, Received, Sent, Ended, KeptUp, PeerDid}
 use Rattle.hub.specs.Runs.{close, Ran}
 
 abbrev pub requests_of : Turn → List Event
@@ -11,6 +11,7 @@ requests_of (Received slot room came bodies replies) = asks (slot + 1) bodies
 requests_of (Sent slot offered wrote bodies replies) = asks (slot + 1) bodies
 requests_of (Ended slot) = (slot + 1, close) ∷ []
 requests_of (KeptUp bodies replies) = asks 0 bodies
+requests_of (PeerDid peer offered t) = asks 0 t.bodies
 requests_of _ = []
 
 -- the requests of turns, oldest first, each with its actor

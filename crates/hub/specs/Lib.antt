@@ -2,6 +2,8 @@
 pub mod Settlings
 pub mod Upkeeps
 pub mod Answering
+pub mod Peers
+pub mod Noting
 pub mod Connections
 pub mod Telling
 pub mod Talks
@@ -10,6 +12,7 @@ pub mod Timing
 pub mod Runs
 pub mod Keeping
 pub mod Laws
+pub mod PeerLaws
 pub mod Doors
 pub mod DoorLaws
 pub mod Memory

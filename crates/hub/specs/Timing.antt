@@ -1,13 +1,14 @@
 -- When upkeep comes in a run.
 use Rattle.std.specs.Prelude.{◌≡◌, ℕ, ◌+◌, ◌-◌, ◌||◌, Bool, false, List, [], ◌∷◌, Option, Some, None, nat_le, if◌then◌else◌}
 use Rattle.hub.specs.Upkeeps.{UpkeepRule, counted, ends_with}
-use Rattle.hub.specs.Turns.{Turn, Received, Sent, KeptUp, Settled}
+use Rattle.hub.specs.Turns.{Turn, Received, Sent, KeptUp, Settled, PeerDid}
 
--- How many replies that count were given to connections and aren't paid off: an upkeep pays off `after` of them, or all where
+-- How many replies that count were given to connections, or for peers, and aren't paid off: an upkeep pays off `after` of them, or all where
 -- they are fewer.
 abbrev pub unpaid_after : UpkeepRule → Turn → ℕ → ℕ
 unpaid_after rule (Received slot room came bodies replies) old = old + counted rule.codes replies
 unpaid_after rule (Sent slot offered wrote bodies replies) old = old + counted rule.codes replies
+unpaid_after rule (PeerDid peer offered t) old = old + counted rule.codes t.replies
 unpaid_after rule (KeptUp bodies replies) old = old - rule.after
 unpaid_after rule _ old = old
 

@@ -1,18 +1,23 @@
 -- The turns of a hub: what the edge offered, and what was done of it.
-use Rattle.std.specs.Prelude.{◌≡◌, ℕ, ◌<◌, ◌≤◌, ◌==◌, Bool, true, false, List, [], ◌∷◌, ◌++◌, length, Option, Some, None, IsSome, ◌⊎◌}
+use Rattle.std.specs.Prelude.{◌≡◌, ℕ, ◌*◌, ◌<◌, ◌≤◌, ◌==◌, Bool, true, false, List, [], ◌∷◌, ◌++◌, length, Option, Some, None, IsSome, ◌⊎◌}
 use Rattle.tardis_base.specs.Sizes.{piece}
 use Rattle.frame_cut.specs.Frames.{IsLong}
 use Rattle.hub.specs.Connections.{slots}
 use Rattle.hub.specs.declared.ports.Ready.{Ready}
-use Rattle.hub.specs.declared.ports.Ready.TheVariants.{Accept, Read, Write, Close, Stop}
+use Rattle.hub.specs.declared.ports.Ready.TheVariants.{Accept, Read, Write, Close, Peer as OfPeer, Stop}
 use Rattle.hub.specs.declared.ports.Seen.{Seen}
 use Rattle.hub.specs.declared.ports.Seen.TheVariants.{Offered, Accepted, Declined, ReadFrom, WroteTo, Closed}
+use Rattle.hub.specs.declared.ports.Fetches.{Fetches}
 use Rattle.hub.specs.Talks.{Talk, no_talk, more_talk, held, waits}
+use Rattle.hub.specs.Peers.{offer_of, moved, carried_out, MayTell, HasNothingFor}
+use Rattle.site_peers.specs.declared.peers.Peer.{Peer}
+use Rattle.site_peers.specs.Runs.{PeerTurn, Went}
 
 -- Nothing was done of what was offered; a connection came into a slot through a door, or none came after all, or it was turned away for
 -- want of memory; bytes came of one, or a front of what waits was written to it, and requests were answered by these
 -- replies; or it ended, and its session was closed. Or the hub itself asked requests, and they were answered by these
--- replies; or what was answered before was settled, so that bytes could be written.
+-- replies; or what was answered before was settled, so that bytes could be written. Or a peer had a turn; where bytes were to
+-- move so much room was offered for them, or so many.
 pub data Turn : Type 0 where
   Rested : (offer : Ready) → Turn
   Opened : (slot door : ℕ) → Turn
@@ -23,6 +28,7 @@ pub data Turn : Type 0 where
   Ended : (slot : ℕ) → Turn
   KeptUp : (bodies replies : List (List ℕ)) → Turn
   Settled : Turn
+  PeerDid : (peer offered : ℕ) → PeerTurn → Turn
 
 -- what the edge sees of a turn: its offer, and the call that was made; nothing of what the hub asks itself or settles
 abbrev pub calls_of : Turn → List Seen
@@ -35,6 +41,7 @@ calls_of (Sent slot offered wrote bodies replies) = Offered (Write slot) ∷ Wro
 calls_of (Ended slot) = Offered (Close slot) ∷ Closed slot ∷ []
 calls_of (KeptUp bodies replies) = []
 calls_of Settled = []
+calls_of (PeerDid peer offered t) = Offered (OfPeer peer t.now (offer_of t.news)) ∷ moved peer offered t.news ++ carried_out peer t.deed
 
 -- what it sees of turns, of which the newest is first
 abbrev pub calls_in : List Turn → List Seen
@@ -61,11 +68,35 @@ talk_after n (Sent slot offered wrote bodies replies) old = there (n == slot) (m
 talk_after n (Ended slot) old = there (n == slot) None old
 talk_after n (KeptUp bodies replies) old = old
 talk_after n Settled old = old
+talk_after n (PeerDid peer offered t) old = old
 
 -- what the connection that has slot n has of the turns, since it came
 abbrev pub talk : ℕ → List Turn → Option Talk
 talk n [] = None
 talk n (turn ∷ older) = talk_after n turn (talk n older)
+
+-- what peer n had of a turn, behind what it had before
+abbrev pub its_own : Bool → PeerTurn → List PeerTurn → List PeerTurn
+its_own true t old = t ∷ old
+its_own false t old = old
+
+abbrev pub turns_after : ℕ → Turn → List PeerTurn → List PeerTurn
+turns_after n (PeerDid peer offered t) old = its_own (n == peer) t old
+turns_after n _ old = old
+
+-- the turns of peer n among these
+abbrev pub turns_of : ℕ → List Turn → List PeerTurn
+turns_of n [] = []
+turns_of n (turn ∷ older) = turns_after n turn (turns_of n older)
+
+-- the peer of this number, as its turns led to it
+pub record IsPeer (fetches : Fetches) (older : List Turn) (n : ℕ) (p : Peer) : Type 0 where
+  pub is_one : n < fetches.peers
+  pub went : Went (1000 * fetches.seconds) (turns_of n older) p
+
+-- each peer, as its turns led to it
+abbrev pub ArePeers : Fetches → List Turn → Type 0
+ArePeers fetches turns = (n : ℕ) → n < fetches.peers → (p : Peer) × IsPeer fetches turns n p
 
 -- no more is read of a connection: much waits, or the frame that is next is too long
 abbrev pub IsShut : Option Talk → Type 0
@@ -80,13 +111,14 @@ abbrev pub HasSome : Option Talk → Type 0
 HasSome None = ⊥
 HasSome (Some t) = 0 < length (waits t)
 
--- nothing may be done of an offer only where there is nothing to do
-abbrev pub MayRest : List Turn → Ready → Type 0
-MayRest older Accept = (n : ℕ) → n < slots → IsSome (talk n older)
-MayRest older (Read n) = IsShut (talk n older)
-MayRest older (Write n) = HasNothing (talk n older)
-MayRest older (Close n) = talk n older ≡ None
-MayRest older Stop = ⊥
+-- nothing may be done of an offer only where there is nothing to do, or no such peer
+abbrev pub MayRest : Fetches → List Turn → Ready → Type 0
+MayRest fetches older Accept = (n : ℕ) → n < slots → IsSome (talk n older)
+MayRest fetches older (Read n) = IsShut (talk n older)
+MayRest fetches older (Write n) = HasNothing (talk n older)
+MayRest fetches older (Close n) = talk n older ≡ None
+MayRest fetches older (OfPeer n now news) = (fetches.peers ≤ n) ⊎ ((p : Peer) × IsPeer fetches older n p × HasNothingFor p news)
+MayRest fetches older Stop = ⊥
 
 -- the bytes that wait there are few, or so many
 abbrev pub WaitFew : Option Talk → Type 0
@@ -103,13 +135,14 @@ HasFreeSlot older = (n : ℕ) × (n < slots) × (talk n older ≡ None)
 
 -- The right turn after older ones. A connection is turned away only while a slot is free, and else it waits. A read offers room for 65,536 bytes, and a write all that waits. When the hub asks
 -- requests itself is said by `AreTimely`.
-abbrev pub IsRight : List Turn → Turn → Type 0
-IsRight older (Rested offer) = MayRest older offer
-IsRight older (Opened slot door) = (slot < slots) × (talk slot older ≡ None)
-IsRight older (Missed slot) = (slot < slots) × (talk slot older ≡ None)
-IsRight older TurnedAway = HasFreeSlot older
-IsRight older (Received slot room came bodies replies) = WaitFew (talk slot older) × (room ≡ piece)
-IsRight older (Sent slot offered wrote bodies replies) = WaitSoMany (talk slot older) offered
-IsRight older (Ended slot) = IsSome (talk slot older)
-IsRight older (KeptUp bodies replies) = Unit {0}
-IsRight older Settled = Unit {0}
+abbrev pub IsRight : Fetches → List Turn → Turn → Type 0
+IsRight fetches older (Rested offer) = MayRest fetches older offer
+IsRight fetches older (Opened slot door) = (slot < slots) × (talk slot older ≡ None)
+IsRight fetches older (Missed slot) = (slot < slots) × (talk slot older ≡ None)
+IsRight fetches older TurnedAway = HasFreeSlot older
+IsRight fetches older (Received slot room came bodies replies) = WaitFew (talk slot older) × (room ≡ piece)
+IsRight fetches older (Sent slot offered wrote bodies replies) = WaitSoMany (talk slot older) offered
+IsRight fetches older (Ended slot) = IsSome (talk slot older)
+IsRight fetches older (KeptUp bodies replies) = Unit {0}
+IsRight fetches older Settled = Unit {0}
+IsRight fetches older (PeerDid peer offered t) = (p : Peer) × IsPeer fetches older peer p × MayTell p offered t.news

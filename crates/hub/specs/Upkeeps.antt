@@ -1,10 +1,11 @@
 -- Upkeep of a machine: requests that the hub asks itself, and the replies that count towards them.
-use Rattle.std.specs.Prelude.{ℕ, ◌+◌, ◌-◌, ◌==◌, ◌||◌, Bool, false, List, [], ◌∷◌, length, map, filter, bytes_eq, nat_le, Option, Some, None, if◌then◌else◌}
+use Rattle.std.specs.Prelude.{ℕ, ◌+◌, ◌-◌, ◌==◌, ◌||◌, ◌&&◌, not, Bool, false, List, [], ◌∷◌, length, map, filter, bytes_eq, nat_le, Option, Some, None, if◌then◌else◌}
 use Rattle.std.specs.List.{list_any}
+use Rattle.tardis_base.specs.Plain.{no_memory}
 use Rattle.hub.specs.declared.upkeeps.Upkeep.{Upkeep}
 
--- These requests are asked for each so many replies that were given and begin with one of these bytes. Where the last of
--- them is answered by `full`, there may be more to do.
+-- These requests are asked for each so many replies that were given, begin with one of these bytes and don't say that memory was
+-- wanting. Where the last of the requests is answered by `full`, there may be more to do.
 pub record UpkeepRule : Type 0 where
   pub codes : List ℕ
   pub after : ℕ
@@ -24,9 +25,13 @@ abbrev pub begins_with_one_of : List ℕ → List ℕ → Bool
 begins_with_one_of codes [] = false
 begins_with_one_of codes (byte ∷ rest) = list_any (λ code. code == byte) codes
 
--- how many of the replies begin with one of these bytes
+-- a reply counts that begins with one of these bytes, unless it is the one that memory was wanting
+abbrev pub is_counted : List ℕ → List ℕ → Bool
+is_counted codes reply = not (bytes_eq reply no_memory) && begins_with_one_of codes reply
+
+-- how many of the replies count
 abbrev pub counted : List ℕ → List (List ℕ) → ℕ
-counted codes replies = length (filter (begins_with_one_of codes) replies)
+counted codes replies = length (filter (is_counted codes) replies)
 
 -- whether the last of the replies is this one
 abbrev pub ends_with : List ℕ → List (List ℕ) → Bool

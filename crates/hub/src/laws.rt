@@ -3,9 +3,11 @@
 ghost use Rattle.hub.specs.Settlings.{settling, in_memory, behind_doors};
 ghost use Rattle.hub.specs.Doors.{DoorRules, seen_through};
 ghost use Rattle.hub.specs.Laws.{IsSeenAs, OneTrail};
+ghost use Rattle.hub.specs.PeerLaws.{FetchesAreWhole, PeersAreFair};
 ghost use Rattle.hub.specs.DoorLaws.{IsSeenBehind, TrailBehindDoors};
 
 use rest_machine::Settling;
+use site_peers::exchanges_are_whole;
 use tardis_base::Machine;
 
 /// Over a machine in memory the turns of a run are one run of the plain machine over one trail: the requests of all
@@ -34,3 +36,12 @@ pub fn one_trail_behind_doors_as_seen<M: Settling, N: Machine>()
         → IsSeenBehind (behind_doors M.plain M.through M.is_settled M.settled) N.plain rules shows
         → TrailBehindDoors (behind_doors M.plain M.through M.is_settled M.settled) N.plain rules shows }
 {}
+
+/// In a run no turn of a peer asks more than 64 requests, so the edge is asked again behind at most 64 deliveries; and the exchanges
+/// with each peer are whole, as `site_peers::exchanges_are_whole` says. This call does nothing.
+pub fn fetches_are_whole()
+    ensures fair { PeersAreFair }
+    ensures whole { FetchesAreWhole }
+{
+    exchanges_are_whole();
+}

@@ -3,20 +3,24 @@
 
 mod answers;
 mod connections;
+mod fetching;
 mod laws;
 mod memory;
+mod noting;
 mod ports;
 mod serves;
+#[cfg(test)]
+mod tests;
 mod turns;
 mod upkeeps;
 mod waitings;
 
 pub use connections::Connection;
 pub use laws::{
-    one_trail, one_trail_as_seen, one_trail_behind_doors, one_trail_behind_doors_as_seen,
+    fetches_are_whole, one_trail, one_trail_as_seen, one_trail_behind_doors, one_trail_behind_doors_as_seen,
 };
 pub use memory::{MemoryPorts, Move};
-pub use ports::{Ports, Ready, Seen};
+pub use ports::{Fetches, PeerNews, Ports, Ready, Seen};
 pub use serves::{End, serve};
 pub use turns::SLOTS;
 pub use upkeeps::Upkeep;

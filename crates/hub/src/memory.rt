@@ -5,7 +5,8 @@ ghost use Rattle.hub.specs.Telling.{Tells};
 ghost use Rattle.hub.specs.Memory.{told};
 
 use crate::connections::Connection;
-use crate::ports::{Ports, Ready, Seen};
+use crate::ports::{PeerNews, Ports, Ready, Seen};
+use site_peers::{Failure, Peer};
 use std::alloc::Global;
 use tardis_base::ByteList;
 
@@ -13,13 +14,41 @@ use tardis_base::ByteList;
 #[derive(Drop)]
 pub enum Move {
     /// A connection comes through the door of this number, or none comes after all.
-    Accept { comes: Option<u8> },
+    Accept {
+        comes: Option<u8>,
+    },
     /// These bytes come, as far as there is room.
-    Read { slot: usize, bytes: ByteList },
+    Read {
+        slot: usize,
+        bytes: ByteList,
+    },
     /// At most so many bytes are taken.
-    Write { slot: usize, most: usize },
+    Write {
+        slot: usize,
+        most: usize,
+    },
     /// The connection ends.
-    Close { slot: usize },
+    Close {
+        slot: usize,
+    },
+    /// This is told of a peer at this time.
+    Peer {
+        peer: usize,
+        now: u64,
+        news: PeerNews,
+    },
+    /// These bytes come of a peer, as far as there is room.
+    ReadPeer {
+        peer: usize,
+        now: u64,
+        bytes: ByteList,
+    },
+    /// At most so many bytes are taken for a peer.
+    WritePeer {
+        peer: usize,
+        now: u64,
+        most: usize,
+    },
 }
 
 /// An edge in memory. It offers its moves in order, and then says stop. To a call that doesn't take up its last offer it
@@ -87,19 +116,28 @@ fn copy_front(bytes: &[u8], buf: &mut [u8]) -> usize
     count
 }
 
+/// The offer of these news.
+fn of_peer(peer: usize, now: u64, news: PeerNews) -> Ready {
+    Ready::Peer { peer, now, news }
+}
+
 impl Ports for MemoryPorts {
     ghost use Rattle.hub.specs.Memory.{told};
 
     ghost seen = { λ p. told p.lost p.seen.items };
 
-    fn ready(&mut self, connections: &[Option<Connection>]) -> Ready {
+    fn ready(&mut self, connections: &[Option<Connection>], peers: &[Peer]) -> Ready {
         let _ = connections;
+        let _ = peers;
         let offer = match self.moves.get(self.played) {
             None => Ready::Stop,
             Some(Move::Accept { .. }) => Ready::Accept,
             Some(Move::Read { slot, .. }) => Ready::Read(*slot),
             Some(Move::Write { slot, .. }) => Ready::Write(*slot),
             Some(Move::Close { slot }) => Ready::Close(*slot),
+            Some(Move::Peer { peer, now, news }) => of_peer(*peer, *now, *news),
+            Some(Move::ReadPeer { peer, now, .. }) => of_peer(*peer, *now, PeerNews::Read),
+            Some(Move::WritePeer { peer, now, .. }) => of_peer(*peer, *now, PeerNews::Write),
         };
         self.played = self.played.saturating_add(1);
         self.note(Seen::Offered(offer));
@@ -156,5 +194,52 @@ impl Ports for MemoryPorts {
 
     fn close(&mut self, slot: usize) {
         self.note(Seen::Closed { slot });
+    }
+
+    fn call_peer(&mut self, peer: usize) {
+        self.note(Seen::CalledPeer { peer });
+    }
+
+    fn close_peer(&mut self, peer: usize) {
+        self.note(Seen::ClosedPeer { peer });
+    }
+
+    #[tactic(auto, using(crate::proofs::Leading::tells_lost))]
+    fn read_peer(&mut self, peer: usize, buf: &mut [u8]) -> usize {
+        let room = buf.len();
+        let count = match self.moves.get(self.played.saturating_sub(1)) {
+            Some(Move::ReadPeer { bytes, .. }) => copy_front(bytes.as_slice(), buf),
+            _ => 0,
+        };
+        match Vec::from_slice(self.alloc, &buf[..count]) {
+            Ok(bytes) => self.note(Seen::ReadFromPeer {
+                peer,
+                room,
+                bytes: ByteList::from_vec(bytes),
+            }),
+            Err(_) => self.lose(),
+        }
+        count
+    }
+
+    #[tactic(auto, using(crate::proofs::Leading::tells_lost))]
+    fn write_peer(&mut self, peer: usize, bytes: &[u8]) -> usize {
+        let count = match self.moves.get(self.played.saturating_sub(1)) {
+            Some(Move::WritePeer { most, .. }) => bytes.len().min(*most),
+            _ => 0,
+        };
+        match Vec::from_slice(self.alloc, &bytes[..count]) {
+            Ok(taken) => self.note(Seen::WroteToPeer {
+                peer,
+                offered: bytes.len(),
+                bytes: ByteList::from_vec(taken),
+            }),
+            Err(_) => self.lose(),
+        }
+        count
+    }
+
+    fn tell_failure(&mut self, peer: usize, why: Failure) {
+        self.note(Seen::ToldFailure { peer, why });
     }
 }

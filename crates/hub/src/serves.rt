@@ -1,6 +1,7 @@
 //! The loop of a hub.
 
-ghost use Rattle.std.specs.Prelude.{◌≡◌, ◌<◌, ℕ, ◌+◌, true, None, length, option_map, IfOk, IfSome, OnErr};
+ghost use Rattle.std.specs.Prelude.{◌≡◌, ◌<◌, ℕ, ◌+◌, ◌*◌, true, Some, None, length, slice_get, option_map, IfOk, IfSome, OnErr};
+ghost use Rattle.site_peers.specs.Moves.{fresh};
 ghost use Rattle.tardis_base.specs.Sizes.{piece};
 ghost use Rattle.hub.specs.Connections.{connection_at, slots};
 ghost use Rattle.hub.specs.Settlings.{behind_doors};
@@ -8,10 +9,12 @@ ghost use Rattle.hub.specs.Upkeeps.{rule_of};
 ghost use Rattle.hub.specs.Runs.{close, IsRun};
 
 use crate::connections::Connection;
-use crate::ports::Ports;
+use crate::fetching::fresh_peers;
+use crate::ports::{Fetches, Ports};
 use crate::turns::{Outcome, SLOTS, turn};
 use crate::upkeeps::{Tally, Upkeep, keep_up};
 use rest_machine::Settling;
+use site_peers::Peer;
 use std::alloc::Global;
 use tardis_base::{NoMemory, PIECE, ReplyBuf};
 
@@ -39,6 +42,10 @@ pub enum End {
 /// an edge that offers all reads before the writes has one settling for them all. Where settling fails the hub ends at once,
 /// and writes nothing more to anybody. Settling isn't counted as a turn.
 ///
+/// It fetches from so many peers as `fetches` says, each a `site_peers::Peer` that is fresh at first. What a peer asks of the machine
+/// is asked by actor 0, through no door, and at most 64 requests in a turn; what is written to it waits for the settling as
+/// all that is written. An offer for a number that no peer has is passed over.
+///
 /// An upkeep is made between two turns, as soon as it is due, and counts as a turn; `Upkeep` says when. Where it is due when
 /// the edge would say stop, it is made before that is asked.
 ///
@@ -50,24 +57,28 @@ pub fn serve<M: Settling, P: Ports>(
     machine: &mut M,
     ports: &mut P,
     upkeep: Option<Upkeep<'_>>,
+    fetches: Fetches,
 ) -> Result<End, NoMemory>
     requires often { IfSome (option_map rule_of upkeep) (λ rule. 0 < rule.after) }
     requires sure { (n : ℕ) → n < slots → M.plain.is_sure (n + 1, close) ≡ true }
     ensures served { IfOk result (λ end. (s : M.Plain) → M.stands machine.old s
-        → IsRun (behind_doors M.plain M.through M.is_settled M.settled) (option_map rule_of upkeep.entry) (M.stands machine.new) s end (P.seen ports.old) (P.seen ports.new)) }
+        → IsRun (behind_doors M.plain M.through M.is_settled M.settled) (option_map rule_of upkeep.entry) fetches (M.stands machine.new) s end (P.seen ports.old) (P.seen ports.new)) }
     ensures unsettled { IfOk result (λ end. end ≡ End.Unsettled → 0 < M.faults machine.new) }
     ensures nothing { OnErr result ((machine.new ≡ machine.old) × (ports.new ≡ ports.old)) }
     ensures opening { M.opening machine.new ≡ M.opening machine.old }
 {
     let mut connections = free_connections(alloc)?;
+    let mut peers = fresh_peers(alloc, fetches)?;
     let mut reply = ReplyBuf::new(alloc)?;
     match vec![in alloc; 0; PIECE] {
         Ok(mut buf) => Ok(serve_connections(
             alloc,
             machine,
             connections.as_mut_slice(),
+            peers.as_mut_slice(),
             ports,
             upkeep,
+            fetches,
             buf.as_mut_slice(),
             &mut reply,
         )),
@@ -80,17 +91,21 @@ fn serve_connections<M: Settling, P: Ports>(
     alloc: Global,
     machine: &mut M,
     connections: &mut [Option<Connection>],
+    peers: &mut [Peer],
     ports: &mut P,
     upkeep: Option<Upkeep<'_>>,
+    fetches: Fetches,
     buf: &mut [u8],
     reply: &mut ReplyBuf,
 ) -> End
     requires slots { length connections.old ≡ slots }
     requires free { (n : ℕ) → connection_at connections.old n ≡ None }
+    requires peers { length peers.old ≡ fetches.peers }
+    requires fresh { (n : ℕ) → n < fetches.peers → slice_get peers.old n ≡ Some (fresh (1000 * fetches.seconds)) }
     requires room { length buf.old ≡ piece }
     requires sure { (n : ℕ) → n < slots → M.plain.is_sure (n + 1, close) ≡ true }
     ensures served { (s : M.Plain) → M.stands machine.old s
-        → IsRun (behind_doors M.plain M.through M.is_settled M.settled) (option_map rule_of upkeep.entry) (M.stands machine.new) s result (P.seen ports.old) (P.seen ports.new) }
+        → IsRun (behind_doors M.plain M.through M.is_settled M.settled) (option_map rule_of upkeep.entry) fetches (M.stands machine.new) s result (P.seen ports.old) (P.seen ports.new) }
     ensures unsettled { result ≡ End.Unsettled → 0 < M.faults machine.new }
     ensures opening { M.opening machine.new ≡ M.opening machine.old }
 {
@@ -103,7 +118,16 @@ fn serve_connections<M: Settling, P: Ports>(
                 let more = keep_up(machine, upkeep, reply);
                 tally.pay(upkeep.after, more);
             }
-            None => match turn(alloc, machine, connections, ports, buf, reply, &mut tally) {
+            None => match turn(
+                alloc,
+                machine,
+                connections,
+                peers,
+                ports,
+                buf,
+                reply,
+                &mut tally,
+            ) {
                 Outcome::On => tally.pass(),
                 Outcome::Stopped => return End::Stopped,
                 Outcome::Unsettled => return End::Unsettled,

@@ -12,9 +12,11 @@ ghost use Rattle.hub.specs.Upkeeps.{TallyState};
 
 use crate::answers::close_session;
 use crate::connections::{Connection, Room, free_slot, put_connection, take_connection};
+use crate::fetching::fetch;
 use crate::ports::{Ports, Ready};
 use crate::upkeeps::Tally;
 use rest_machine::Settling;
+use site_peers::Peer;
 use std::alloc::Global;
 use tardis_base::{NoMemory, ReplyBuf};
 use tardis_io::Failed;
@@ -81,7 +83,7 @@ fn hear<M: Settling, P: Ports>(
 }
 
 /// Settles what the machine owes, if it owes anything.
-fn settle_owed<M: Settling>(machine: &mut M) -> Result<(), Failed>
+pub(crate) fn settle_owed<M: Settling>(machine: &mut M) -> Result<(), Failed>
     ensures settled { OnOk result ((s : M.Plain) → M.stands machine.old s → Settles (behind_doors M.plain M.through M.is_settled M.settled) (M.stands machine.new) s) }
     ensures same { OnErr result ((s : M.Plain) → M.stands machine.old s → M.stands machine.new s) }
     ensures cause { OnErr result (0 < M.faults machine.new) }
@@ -177,6 +179,7 @@ pub(crate) fn turn<M: Settling, P: Ports>(
     alloc: Global,
     machine: &mut M,
     connections: &mut [Option<Connection>],
+    peers: &mut [Peer],
     ports: &mut P,
     buf: &mut [u8],
     reply: &mut ReplyBuf,
@@ -187,17 +190,17 @@ pub(crate) fn turn<M: Settling, P: Ports>(
     requires sure { (n : ℕ) → n < slots → M.plain.is_sure (n + 1, close) ≡ true }
     requires counts { tally.old.count ≤ 4294967295 }
     ensures turned { result ≡ Outcome.On → Turned (behind_doors M.plain M.through M.is_settled M.settled) (M.stands machine.old) (M.stands machine.new)
-        connections.old connections.new tally.old tally.new (P.seen ports.old) (P.seen ports.new) }
-    ensures stopped { result ≡ Outcome.Stopped → (machine.new ≡ machine.old) × (connections.new ≡ connections.old) × (tally.new ≡ tally.old)
+        connections.old connections.new peers.old peers.new tally.old tally.new (P.seen ports.old) (P.seen ports.new) }
+    ensures stopped { result ≡ Outcome.Stopped → (machine.new ≡ machine.old) × (connections.new ≡ connections.old) × (peers.new ≡ peers.old) × (tally.new ≡ tally.old)
         × Tells (P.seen ports.old) (P.seen ports.new) (Seen.Offered Ready.Stop ∷ []) }
     ensures unsettled { result ≡ Outcome.Unsettled
-        → IsUnsettled (M.stands machine.old) (M.stands machine.new) connections.old (P.seen ports.old) (P.seen ports.new) }
+        → IsUnsettled (M.stands machine.old) (M.stands machine.new) connections.old peers.old (P.seen ports.old) (P.seen ports.new) }
     ensures cause { result ≡ Outcome.Unsettled → 0 < M.faults machine.new }
     ensures slots { length connections.new ≡ length connections.old }
     ensures room { length buf.new ≡ length buf.old }
     ensures opening { M.opening machine.new ≡ M.opening machine.old }
 {
-    match ports.ready(connections) {
+    match ports.ready(connections, peers) {
         Ready::Accept => {
             enter(alloc, machine, connections, ports);
             Outcome::On
@@ -216,6 +219,15 @@ pub(crate) fn turn<M: Settling, P: Ports>(
         Ready::Close(slot) => {
             leave(machine, connections, ports, slot, reply);
             Outcome::On
+        }
+        Ready::Peer { peer, now, news } => {
+            if fetch(
+                alloc, machine, peers, ports, peer, now, news, buf, reply, tally,
+            ) {
+                Outcome::On
+            } else {
+                Outcome::Unsettled
+            }
         }
         Ready::Stop => Outcome::Stopped,
     }

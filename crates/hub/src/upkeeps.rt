@@ -1,7 +1,7 @@
 //! Upkeep of a machine: requests that a hub asks itself, as often as enough was answered.
 
 ghost use Rattle.std.specs.Prelude.{◌≡◌, ◌<◌, ◌≤◌, ◌+◌, [], ◌∷◌, false, bytes_eq, nat_le, map, option_map, IfNone};
-ghost use Rattle.hub.specs.Upkeeps.{rule_of, first_tally, noted, passed, paid, due_by};
+ghost use Rattle.hub.specs.Upkeeps.{rule_of, first_tally, is_counted, noted, passed, paid, due_by};
 ghost use Rattle.hub.specs.Answering.{Asked};
 
 use rest_machine::Settling;
@@ -10,8 +10,9 @@ use tardis_base::{NO_MEMORY, NoMemory, ReplyBuf};
 
 /// Requests that a hub asks its machine itself, as actor 0, in this order. The replies go to nobody.
 ///
-/// They are asked once for each `after` replies that were given to connections and begin with one of `codes`. Where one turn
-/// gave many, there are as many upkeeps before the edge is asked again; what remains stays counted.
+/// They are asked once for each `after` replies that were given to connections, or to what was asked for a peer, and begin with
+/// one of `codes`; the reply that memory was wanting never counts. Where one turn gave many, there are as many upkeeps before the
+/// edge is asked again; what remains stays counted.
 ///
 /// Where the last reply of an upkeep is `full`, there may be more to do: then they are asked again after the next turn of the
 /// edge, so that connections are served in between, and so on until that reply is another one. An upkeep that comes so pays
@@ -61,15 +62,14 @@ impl<'a> Tally<'a> {
         }
     }
 
-    /// Counts a reply, if it is one that counts.
+    /// Counts a reply, if it is one that counts. A count of 18,446,744,073,709,551,615 stands still.
     pub(crate) fn note(&mut self, reply: &[u8])
-        requires room { self.old.count < 18446744073709551615 }
-        ensures noted { self.new ≡ noted self.old (reply.now ∷ []) }
+        ensures noted { self.old.count < 18446744073709551615 → self.new ≡ noted self.old (reply.now ∷ []) }
         ensures most { self.new.count ≤ self.old.count + 1 }
     {
-        if let (Some(upkeep), [code, ..]) = (self.upkeep, reply) {
-            if upkeep.codes.contains(code) {
-                self.count += 1;
+        if let Some(upkeep) = self.upkeep {
+            if counts(upkeep.codes, reply) {
+                self.count = self.count.saturating_add(1);
             }
         }
     }
@@ -105,6 +105,16 @@ impl<'a> Tally<'a> {
             }
             None => None,
         }
+    }
+}
+
+/// Whether a reply counts: it begins with one of these codes, and doesn't say that memory was wanting.
+fn counts(codes: &[u8], reply: &[u8]) -> bool
+    ensures { result ≡ is_counted codes.now reply.now }
+{
+    match reply {
+        [code, ..] => reply != NO_MEMORY.as_slice() && codes.contains(code),
+        [] => false,
     }
 }
 

@@ -9,7 +9,7 @@ use Rattle.hub.proofs.serves.serve_connections.Given as goal
 abbrev pub invariant-loop-turns : goal.invariant-loop-turns
 invariant-loop-turns g l = record {
   led : (s : g.M.Settling.Plain) → g.M.Settling.stands l.fn.machine s →
-      Led (behind_doors g.M.Settling.plain g.M.Settling.through g.M.Settling.is_settled g.M.Settling.settled) (option_map rule_of l.fn.upkeep) (g.M.Settling.stands l.machine) s l.connections l.tally (g.P.Ports.seen l.fn.ports)
+      Led (behind_doors g.M.Settling.plain g.M.Settling.through g.M.Settling.is_settled g.M.Settling.settled) (option_map rule_of l.fn.upkeep) l.fn.fetches (g.M.Settling.stands l.machine) s l.connections l.peers l.tally (g.P.Ports.seen l.fn.ports)
       (g.P.Ports.seen l.ports) l.turns;
   slots : length l.connections ≡ slots;
   room : length l.buf ≡ piece;

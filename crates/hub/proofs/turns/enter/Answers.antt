@@ -27,4 +27,4 @@ pub returns-in-None-clause-turned : goal.returns-in-None-clause-turned
 returns-in-None-clause-turned g c =
     λ tally. rested (behind_doors g.M.Settling.plain g.M.Settling.through g.M.Settling.is_settled g.M.Settling.settled) (g.M.Settling.stands c.args.machine.now) (g.M.Settling.stands c.args.machine.now) c.args.connections.now c.args.connections.now
     Accept tally (g.P.Ports.seen c.args.ports.now) (g.P.Ports.seen c.args.ports.now)
-    (λ s f. f) (λ n. refl) refl (λ turns fits. full_rests c.args.connections.now turns fits c.requires.slots c.in-None.ensures.full)
+    (λ s f. f) (λ n. refl) refl (λ fetches turns fits. full_rests fetches c.args.connections.now turns fits c.requires.slots c.in-None.ensures.full)

@@ -18,7 +18,7 @@ returns-else-wants_read-clause-turned g c =
     c.put_connection-else-wants_read.new.connections (Read c.args.slot) c.args.tally.now (g.P.Ports.seen c.args.ports.now) (g.P.Ports.seen c.args.ports.now)
     (λ s f. f) (all_stay c.args.slot c.args.connections.now c.put_connection-else-wants_read.new.connections (λ n other. c.put_connection-else-wants_read.ensures.others n other
     ∙ c.take_connection.ensures.others n other) ((sym c.take_connection.ensures.was ∙ c.in-Some.is) ∙ sym c.put_connection-else-wants_read.ensures.there)) refl
-    (λ turns fits. shut_rests c.args.connections.now turns c.args.slot c.in-Some.connection fits (sym c.take_connection.ensures.was ∙ c.in-Some.is)
+    (λ fetches turns fits. shut_rests fetches c.args.connections.now turns c.args.slot c.in-Some.connection fits (sym c.take_connection.ensures.was ∙ c.in-Some.is)
     (c.wants_read.ensures.no c.if-wants_read.false))
 
 pub returns-in-None-clause-turned : goal.returns-in-None-clause-turned
@@ -27,4 +27,4 @@ returns-in-None-clause-turned g c =
     (Read c.args.slot) c.args.tally.now (g.P.Ports.seen c.args.ports.now) (g.P.Ports.seen c.args.ports.now)
     (λ s f. f) (all_stay c.args.slot c.args.connections.now c.take_connection.new.connections c.take_connection.ensures.others
     ((sym c.take_connection.ensures.was ∙ c.in-None.is) ∙ sym c.take_connection.ensures.free)) refl
-    (λ turns fits. no_read c.args.connections.now turns c.args.slot fits (sym c.take_connection.ensures.was ∙ c.in-None.is))
+    (λ fetches turns fits. no_read fetches c.args.connections.now turns c.args.slot fits (sym c.take_connection.ensures.was ∙ c.in-None.is))

@@ -33,7 +33,7 @@ returns-else-has_to_write-clause-turned g c = λ on.
     (λ s f. f) (all_stay c.args.slot c.args.connections.now c.put_connection-else-has_to_write.new.connections
     (λ n other. c.put_connection-else-has_to_write.ensures.others n other ∙ c.take_connection.ensures.others n other)
     ((sym c.take_connection.ensures.was ∙ c.in-Some.is) ∙ sym c.put_connection-else-has_to_write.ensures.there)) refl
-    (λ turns fits. empty_rests c.args.connections.now turns c.args.slot c.in-Some.connection fits (sym c.take_connection.ensures.was ∙ c.in-Some.is)
+    (λ fetches turns fits. empty_rests fetches c.args.connections.now turns c.args.slot c.in-Some.connection fits (sym c.take_connection.ensures.was ∙ c.in-Some.is)
     (c.has_to_write.ensures.no c.if-has_to_write.false))
 
 pub returns-in-None-clause-turned : goal.returns-in-None-clause-turned
@@ -42,4 +42,4 @@ returns-in-None-clause-turned g c = λ on.
     (Write c.args.slot) c.args.tally.now (g.P.Ports.seen c.args.ports.now) (g.P.Ports.seen c.args.ports.now)
     (λ s f. f) (all_stay c.args.slot c.args.connections.now c.take_connection.new.connections c.take_connection.ensures.others
     ((sym c.take_connection.ensures.was ∙ c.in-None.is) ∙ sym c.take_connection.ensures.free)) refl
-    (λ turns fits. no_write c.args.connections.now turns c.args.slot fits (sym c.take_connection.ensures.was ∙ c.in-None.is))
+    (λ fetches turns fits. no_write fetches c.args.connections.now turns c.args.slot fits (sym c.take_connection.ensures.was ∙ c.in-None.is))
