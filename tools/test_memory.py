@@ -54,8 +54,6 @@ def test(program, size, address):
         with tardis.connect(address, timeout=PATIENCE) as site, tardis.connect(address, timeout=PATIENCE) as other:
             site.open(follow=True)
             batches = fill(site, 2 * size // (WRITES * len(VALUE)))
-            if site.open_transaction if hasattr(site, "open_transaction") else False:
-                site.abort()
             other.open(follow=True)
             assert reads_all(other, batches)
             known = other.stat().known
