@@ -14,6 +14,7 @@ use crate::talks::{Talk, copied};
 use command_words::{DoorPlan, Place};
 use disk_forms::{MemoryDisk, MemoryStore};
 use hub::{Connection, Ports, Ready};
+use site_peers::{Failure, Peer};
 use std::alloc::Global;
 use std::process::Abort;
 use std::random::RandomSource;
@@ -31,8 +32,9 @@ struct OneByOne<'a> {
 impl Ports for OneByOne<'_> {
     ghost seen = { λ p. None };
 
-    fn ready(&mut self, connections: &[Option<Connection>]) -> Ready {
+    fn ready(&mut self, connections: &[Option<Connection>], peers: &[Peer]) -> Ready {
         let _ = connections;
+        let _ = peers;
         let turn = self.turns;
         self.turns = turn.saturating_add(1);
         if turn == 0 {
@@ -73,6 +75,31 @@ impl Ports for OneByOne<'_> {
 
     fn close(&mut self, slot: usize) {
         let _ = slot;
+    }
+
+    fn call_peer(&mut self, peer: usize) {
+        let _ = peer;
+    }
+
+    fn close_peer(&mut self, peer: usize) {
+        let _ = peer;
+    }
+
+    fn read_peer(&mut self, peer: usize, buf: &mut [u8]) -> usize {
+        let _ = peer;
+        let _ = buf;
+        0
+    }
+
+    fn write_peer(&mut self, peer: usize, bytes: &[u8]) -> usize {
+        let _ = peer;
+        let _ = bytes;
+        0
+    }
+
+    fn tell_failure(&mut self, peer: usize, why: Failure) {
+        let _ = peer;
+        let _ = why;
     }
 }
 

@@ -2,10 +2,10 @@
 
 use crate::merge_rows::BRANCHED;
 use crate::of_limits::{SIXTEEN_SITES, id_behind};
-use crate::of_steps::opened;
 use crate::sites::{LIMITS, keys};
 use crate::talks::{Row, Talk, copied, put};
 use rest_machine::Settling;
+use rest_site::RestSite;
 use site_doors::{AskedSite, FOR_ALL, FOR_CLIENTS, FOR_PEERS};
 use std::alloc::Global;
 use std::hash::RandomState;
@@ -101,7 +101,9 @@ fn come_out(rt: &impl Abort, site: &mut AskedSite, door: u8, talk: Talk) -> bool
 
 /// A site that opens with these limits, behind its doors.
 fn asked_site(rt: &impl Abort, alloc: Global, keys: RandomState, limits: Limits) -> AskedSite {
-    let site = opened(rt, alloc, keys, limits);
+    assert!(rt; limits.valid());
+    assert!(rt; 1 <= limits.sites);
+    let site = RestSite::new(alloc, keys, limits, 1).expect(rt, "room");
     AskedSite { alloc, site }
 }
 
