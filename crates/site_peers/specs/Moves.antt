@@ -220,7 +220,7 @@ module _ (p : Peer) (now : ℕ) (bodies replies : List (List ℕ)) (deed : Deed)
   OnCame [] moment = Rests
   OnCame (byte ∷ bytes) moment = OnBytes (byte ∷ bytes) moment
 
-  -- a front of the question was written, which is the moment's
+  -- a front of the question was written, and the moment goes on with the rest of it
   pub record Writes (Asking : QuestionState → Moment) (question : QuestionState) (bytes : List ℕ) : Type 0 where
     pub left : List ℕ
     pub front : question.left ≡ bytes ++ left
