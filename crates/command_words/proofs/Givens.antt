@@ -3,7 +3,8 @@ use Rattle.std.proofs.Common.{ℕ, ◌<◌, true, false, List, [], ◌∷◌, �
 use Rattle.std.specs.Prelude.{bytes_eq, filter}
 use Rattle.std.proofs.lemmas.Bool.{cond-true, cond-false}
 use Rattle.command_words.specs.Settings.{Setting, values}
-use Rattle.command_words.specs.Values.{needed, number_or, flag, address, address_or_none, once}
+use Rattle.command_words.specs.Values.{needed, number_or, number_or_none, flag, address, address_or_none, once}
+use Rattle.command_words.specs.Sockets.{mode_or}
 use Rattle.command_words.specs.Given.{IsGiven}
 use Rattle.command_words.specs.declared.settings.Given.{Given}
 
@@ -45,6 +46,16 @@ needed_twice least most (Some v ∷ w ∷ more) two = refl
 pub number_twice : (default least most : ℕ) (found : List (Option (List ℕ))) → 1 < length found → None ≡ number_or default least most found
 number_twice default least most [] two = absurd (omega (arith, two))
 number_twice default least most (v ∷ more) two = needed_twice least most (v ∷ more) two
+
+pub number_or_none_twice : (least most : ℕ) (found : List (Option (List ℕ))) → 1 < length found → None ≡ number_or_none least most found
+number_or_none_twice least most [] two = absurd (omega (arith, two))
+number_or_none_twice least most (v ∷ more) two = ap (option_map (λ (n : ℕ). Some n)) (needed_twice least most (v ∷ more) two)
+
+pub mode_twice : (default : ℕ) (found : List (Option (List ℕ))) → 1 < length found → None ≡ mode_or default found
+mode_twice default [] two = absurd (omega (arith, two))
+mode_twice default (v ∷ []) two = absurd (omega (arith, two))
+mode_twice default (None ∷ w ∷ more) two = refl
+mode_twice default (Some v ∷ w ∷ more) two = refl
 
 pub flag_twice : (found : List (Option (List ℕ))) → 1 < length found → None ≡ flag found
 flag_twice [] two = absurd (omega (arith, two))

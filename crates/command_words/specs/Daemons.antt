@@ -7,29 +7,42 @@ use Rattle.command_words.specs.Settings.{Setting, are_only}
 use Rattle.command_words.specs.Values.{flag, address_or_none}
 use Rattle.command_words.specs.Forms.{of, place}
 use Rattle.command_words.specs.Doors.{DoorAt, doors, door_of, door_at}
+use Rattle.command_words.specs.Sockets.{mode, idle}
+use Rattle.command_words.specs.Fetching.{peers, peer_addresses, every}
 
--- what the words of `tardisd` say
+-- What the words of `tardisd` say: a site and its doors; the mode of those that are Unix sockets, and after how many seconds a connection
+-- ends that asks nothing; from which sites it fetches, and after how many seconds again; whether it collects; and where it is kept.
 pub record Daemon : Type 0 where
   pub place : Place
   pub doors : List DoorAt
+  pub mode : ℕ
+  pub idle : Option ℕ
+  pub peers : List (List ℕ)
+  pub every : ℕ
   pub tidy : Bool
   pub file : Option (List ℕ)
 
--- the options beside the place and the doors
-abbrev pub daemon_with : List Setting → Place → List DoorAt → Option Daemon
-daemon_with found place doors =
-    option_and_then (λ tidy. option_map (λ file. record { place = place; doors = doors; tidy = tidy; file = file })
-    (address_or_none (of found (codes "--file")))) (flag (of found (codes "--tidy")))
+-- the options beside the place, the doors and the peers
+abbrev pub daemon_with : List Setting → Place → List DoorAt → List (List ℕ) → Option Daemon
+daemon_with found place doors peers =
+    option_and_then (λ mode. option_and_then (λ idle. option_and_then (λ every. option_and_then (λ tidy. option_map
+    (λ file. record { place = place; doors = doors; mode = mode; idle = idle; peers = peers; every = every; tidy = tidy; file = file })
+    (address_or_none (of found (codes "--file"))))
+    (flag (of found (codes "--tidy"))))
+    (every found))
+    (idle found))
+    (mode found)
 
 -- the options beside the place
 abbrev pub daemon_at : List Setting → Place → Option Daemon
-daemon_at found place = option_and_then (daemon_with found place) (doors found)
+daemon_at found place = option_and_then (λ doors. option_and_then (daemon_with found place doors) (peers found)) (doors found)
 
--- a place; `--listen ADDR`, `--clients ADDR` and `--peers ADDR`, each any number of times, 1 to 8 in all; `--tidy` or not; and
--- `--file PATH` or not
+-- a place; `--listen ADDR`, `--clients ADDR` and `--peers ADDR`, each any number of times, 1 to 8 in all; `--mode MODE`, `--idle SECONDS`,
+-- `--every SECONDS`, each or not; `--peer ADDR`, up to 15 times; `--tidy` or not; and `--file PATH` or not
 abbrev pub daemon : List Setting → Option Daemon
 daemon found =
-    if are_only (codes "--sites" ∷ codes "--site" ∷ codes "--listen" ∷ codes "--clients" ∷ codes "--peers" ∷ codes "--tidy" ∷ codes "--file" ∷ []) found
+    if are_only (codes "--sites" ∷ codes "--site" ∷ codes "--listen" ∷ codes "--clients" ∷ codes "--peers" ∷ codes "--mode" ∷ codes "--idle"
+    ∷ codes "--peer" ∷ codes "--every" ∷ codes "--tidy" ∷ codes "--file" ∷ []) found
     then option_and_then (daemon_at found) (place found) else None
 
 -- what a plan says, without its texts as values of the program
@@ -37,15 +50,23 @@ abbrev pub daemon_of : DaemonPlan → Daemon
 daemon_of plan = record {
   place = plan.place;
   doors = map door_at plan.doors.items;
+  mode = plan.mode;
+  idle = plan.idle;
+  peers = map (λ word. word.now) plan.peers.items;
+  every = plan.every;
   tidy = plan.tidy;
   file = option_map (λ word. word.now) plan.file;
 }
 
--- what is asked for beside doors, with the doors that the options ask for
+-- what is asked for beside doors and peers, with those that the options ask for
 abbrev pub daemon_by : List Setting → DaemonAsked → Daemon
 daemon_by found asked = record {
   place = asked.place;
   doors = filter_map door_of found;
+  mode = asked.mode;
+  idle = asked.idle;
+  peers = peer_addresses found;
+  every = asked.every;
   tidy = asked.tidy;
   file = option_map (λ word. word.now) asked.file;
 }

@@ -9,6 +9,8 @@ pub mod Servings
 pub mod Places
 pub mod Laws
 pub mod Doors
+pub mod Sockets
+pub mod Fetching
 pub mod Daemons
 pub mod Readings
 pub mod Helps

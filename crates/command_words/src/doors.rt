@@ -46,7 +46,7 @@ fn kind_of(name: &str) -> Option<DoorKind>
 }
 
 /// Whether an option of this name asks for a door.
-fn is_door_name(name: &str) -> bool
+pub(crate) fn is_door_name(name: &str) -> bool
     ensures { result ≡ is_some (kind_of name.now) }
 {
     kind_of(name).is_some()
@@ -90,7 +90,7 @@ fn have_addresses(words: &[String]) -> bool
 }
 
 /// Whether a value is there and is the address of a door.
-fn is_given_address(value: Option<&str>) -> bool
+pub(crate) fn is_given_address(value: Option<&str>) -> bool
     ensures { result ≡ has_address (option_map (λ v. v.now) value.entry) }
 {
     match value {

@@ -4,7 +4,7 @@ ghost use Rattle.std.specs.Prelude.{◌≡◌, ◌<◌, ◌≤◌, ℕ, List, Op
 ghost use Rattle.command_words.specs.Servings.{serving_by};
 ghost use Rattle.std.specs.String.{string_bytes};
 ghost use Rattle.command_words.specs.Settings.{settings, values};
-ghost use Rattle.command_words.specs.Values.{needed, number_or, flag, address, address_or_none, addresses};
+ghost use Rattle.command_words.specs.Values.{needed, number_or, number_or_none, may_stand, flag, address, address_or_none, addresses};
 ghost use Rattle.command_words.specs.Forms.{place_alone, place, world, serving, serving_at, load, Serving, AsLoad};
 ghost use Rattle.command_words.specs.Commands.{serving_of};
 ghost use Rattle.command_words.specs.Places.{IsPlace};
@@ -12,7 +12,7 @@ ghost use Rattle.tardis_base.specs.Sizes.{most_sites};
 
 use crate::commands::{Place, ServePlan, WordsFault};
 use crate::numbers::{is_address, read_number};
-use crate::peers::{are_addresses, copies_of};
+use crate::peers::{are_addresses, copies_of, count_of};
 use crate::settings::{Given, are_only, how_given};
 use std::alloc::Global;
 use tardis_base::{MAX_SITES, NoMemory};
@@ -32,7 +32,13 @@ fn read_needed(words: &[String], name: &str, least: u32, most: u32) -> Option<u3
 }
 
 /// The number of an option that may be left out.
-fn read_number_or(words: &[String], name: &str, default: u32, least: u32, most: u32) -> Option<u32>
+pub(crate) fn read_number_or(
+    words: &[String],
+    name: &str,
+    default: u32,
+    least: u32,
+    most: u32,
+) -> Option<u32>
     requires from { least ≤ default }
     requires to { default ≤ most }
     ensures number { result ≡ number_or default least most (values name.now (settings (map (λ w. string_bytes w) words.now))) }
@@ -45,6 +51,33 @@ fn read_number_or(words: &[String], name: &str, default: u32, least: u32, most: 
         Given::Bare => None,
         Given::Twice => None,
     }
+}
+
+/// The number of an option that may be left out, where there is one.
+pub(crate) fn read_number_or_none(
+    words: &[String],
+    name: &str,
+    least: u32,
+    most: u32,
+) -> Option<Option<u32>>
+    ensures { result ≡ number_or_none least most (values name.now (settings (map (λ w. string_bytes w) words.now))) }
+{
+    match how_given(words, name) {
+        Given::Absent => Some(None),
+        Given::Value(word) => match read_number(word, least, most) {
+            Some(number) => Some(Some(number)),
+            None => None,
+        },
+        Given::Bare => None,
+        Given::Twice => None,
+    }
+}
+
+/// Whether an option may stand that speaks of something which is there or isn't.
+pub(crate) fn may_stand(words: &[String], name: &str, there: bool) -> bool
+    ensures { result ≡ may_stand there (values name.now (settings (map (λ w. string_bytes w) words.now))) }
+{
+    there || count_of(words, name) == 0
 }
 
 /// Whether `--tidy` is there, unless it is more than once.

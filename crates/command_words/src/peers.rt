@@ -19,7 +19,7 @@ pub(crate) fn are_addresses(words: &[String], name: &str, most: usize) -> bool
 }
 
 /// How often the option of this name is given.
-fn count_of(words: &[String], name: &str) -> usize
+pub(crate) fn count_of(words: &[String], name: &str) -> usize
     ensures { result ≡ length (values name.now (settings (map (λ w. string_bytes w) words.now))) }
 {
     let mut count = 0;

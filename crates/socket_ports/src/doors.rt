@@ -64,15 +64,16 @@ pub struct Door {
 const UNIX: &str = "unix:";
 
 /// Opens the door of this number at an address: `unix:` and a path, or `HOST:PORT`. A path that a dead server left is taken
-/// over, and a living one's isn't. A Unix socket is its owner's alone (mode 0600) from the moment at which it stands at the path.
+/// over, and a living one's isn't. A Unix socket has this mode from the moment at which it stands at the path.
 pub fn open_door<R: Files + Net + RandomSource>(
     rt: &R,
     alloc: Global,
     address: &str,
+    mode: u32,
     number: u8,
 ) -> Result<Door, DoorFault> {
     let listener = match path_of(address) {
-        Some(path) => Listener::Unix(open_unix(rt, alloc, path)?),
+        Some(path) => Listener::Unix(open_unix(rt, alloc, path, mode)?),
         None => Listener::Tcp(open_tcp(rt, address)?),
     };
     Ok(Door {

@@ -2,22 +2,26 @@
 
 ghost use Rattle.std.specs.Prelude.{◌≡◌, ◌≤◌, ◌∷◌, [], None, length, take};
 
+use crate::clocks::Stopwatch;
 use crate::doors::{Door, is_passing};
+use crate::lines::Line;
 use crate::plugs::{Plug, Work};
 use crate::streams::Stream;
-use hub::{Connection, Ports, Ready, SLOTS};
+use crate::watches::Watch;
+use hub::{Connection, PeerNews, Ports, Ready, SLOTS};
 use mio::{Events, Poll, Token};
+use site_peers::{Failure, Peer};
 use std::alloc::Global;
 use std::io;
 use std::net::Net;
-use std::time::Duration;
+use std::time::{Clock, Duration};
 
-/// The name of the first door among the events of the system; those of the others follow. The connections have their slots'
-/// numbers.
+/// The name of the first door among the events of the system; those of the others follow, and then those of the peers. The connections
+/// have their slots' numbers.
 const FIRST_DOOR: usize = SLOTS;
 
-/// So many events are taken at once: one for each connection, and one for each of some doors. What is left comes the next time.
-const MOST_EVENTS: usize = SLOTS + 8;
+/// So many events are taken at once: one for each connection, and one for each of some doors and peers. What is left comes the next time.
+const MOST_EVENTS: usize = SLOTS + 24;
 
 /// So many connections that find no room are told so at once. What is left comes in the next round.
 const MOST_TURNED_AWAY: usize = 64;
@@ -29,20 +33,30 @@ enum Step {
     Admit,
     /// What may be read.
     Read,
+    /// What may be read of peers, and what became of calls.
+    Fetch,
+    /// The time, to one peer of which it says something.
+    Tick,
     /// What may be written, and what is over.
     Write,
+    /// What may be written to peers.
+    Ask,
 }
 
-/// The connections that came through doors, offered in rounds. A round begins with what the system tells by then. A
-/// connection that waits at a door is offered first, of the doors one after another; then one read of each connection that may give bytes; and then one write
-/// to each for which bytes wait. So what is answered in a round can be settled at once for all, and no connection keeps the
-/// others waiting for longer than a round. When a peer has sent all, its connection ends once its replies are written.
+/// The connections that came through doors, and those to peers, offered in rounds. A round begins with what the system tells by then. A
+/// connection that waits at a door is offered first, of the doors one after another; then one read of each connection that may give bytes,
+/// and one of each peer, or what became of its call; then the time to one peer of which it says something, of the peers one after another, so that
+/// clients wait for the delivery of no more than one turn's items; and then one write to each connection and each peer for which bytes wait. So
+/// what is answered in a round can be settled at once for all, and neither a connection nor a peer keeps the
+/// others waiting for longer than a round. When a client has sent all, its connection ends once its replies are written. One that asked
+/// nothing for too long, and took nothing of its replies, is offered as over.
 ///
 /// A connection for which there is no slot is told so by one frame, and ended; it isn't offered, so nobody else sees it.
 ///
-/// It tells nothing of what it saw, and ends only where the system can't be waited for.
+/// It tells nothing of what it saw, but for what becomes of peers, and ends only where the system can't be waited for.
 #[derive(Drop)]
-pub struct SocketPorts {
+pub struct SocketPorts<'a, R, W> {
+    rt: &'a R,
     poll: Poll,
     events: Events,
     doors: Vec<Door>,
@@ -53,14 +67,31 @@ pub struct SocketPorts {
     open: usize,
     high: usize,
     step: Step,
-    /// The slot whose turn is next in this step.
+    /// The slot or the peer whose turn is next in this step.
     next: usize,
+    lines: Vec<Line>,
+    /// The peer that is told the time next, if that says something.
+    due: usize,
+    /// After so many milliseconds in which it asked nothing a connection is over.
+    idle: Option<u64>,
+    /// The slot of which a read was offered, and how many bytes waited to be written to it then.
+    heard: Option<(usize, usize)>,
+    clock: Stopwatch,
+    watch: W,
 }
 
-impl SocketPorts {
-    /// The connections that will come through these doors.
-    pub fn new(net: &impl Net, alloc: Global, doors: Vec<Door>) -> io::Result<SocketPorts> {
-        let poll = Poll::new(net)?;
+impl<'a, R: Net + Clock, W: Watch + Drop> SocketPorts<'a, R, W> {
+    /// The connections that will come through these doors, and those to peers at these addresses. A connection that asked
+    /// nothing for so many seconds is ended.
+    pub fn new(
+        rt: &'a R,
+        alloc: Global,
+        doors: Vec<Door>,
+        peers: Vec<String>,
+        idle: Option<u32>,
+        watch: W,
+    ) -> io::Result<SocketPorts<'a, R, W>> {
+        let poll = Poll::new(rt)?;
         let events = Events::with_capacity(alloc, MOST_EVENTS)?;
         let mut doors = doors;
         let mut token = FIRST_DOOR;
@@ -68,11 +99,21 @@ impl SocketPorts {
             door.register(poll.registry(), Token(token))?;
             token = token.saturating_add(1);
         }
+        let mut lines = Vec::new(alloc);
+        for address in peers {
+            lines.push(Line::new(address, Token(token)))?;
+            token = token.saturating_add(1);
+        }
         let mut plugs = Vec::with_capacity(alloc, SLOTS)?;
         for _ in 0..SLOTS {
             plugs.push(None)?;
         }
+        let idle = match idle {
+            Some(seconds) => Some(1_000 * seconds as u64),
+            None => None,
+        };
         Ok(SocketPorts {
+            rt,
             poll,
             events,
             doors,
@@ -82,11 +123,17 @@ impl SocketPorts {
             high: 0,
             step: Step::Admit,
             next: 0,
+            lines,
+            due: 0,
+            idle,
+            heard: None,
+            clock: Stopwatch::new(rt)?,
+            watch,
         })
     }
 
     /// What is next in this round, if anything is left of it.
-    fn offer(&mut self, connections: &[Option<Connection>]) -> Option<Ready> {
+    fn offer(&mut self, connections: &[Option<Connection>], peers: &[Peer]) -> Option<Ready> {
         if self.step == Step::Admit {
             self.go_to(Step::Read);
             if self.is_knocked() && !self.is_full() {
@@ -97,9 +144,35 @@ impl SocketPorts {
             if let Some(slot) = self.next_read(connections) {
                 return Some(Ready::Read(slot));
             }
-            self.go_to(Step::Write);
+            self.go_to(Step::Fetch);
         }
-        self.next_end(connections)
+        if let Some(offer) = self.offer_of_peers(peers) {
+            return Some(offer);
+        }
+        if self.step == Step::Write {
+            if let Some(offer) = self.next_end(connections) {
+                return Some(offer);
+            }
+            self.go_to(Step::Ask);
+        }
+        self.next_ask(peers)
+    }
+
+    /// What is next of the peers, if it is their turn, but for what may be written to them.
+    fn offer_of_peers(&mut self, peers: &[Peer]) -> Option<Ready> {
+        if self.step == Step::Fetch {
+            if let Some(offer) = self.next_news(peers) {
+                return Some(offer);
+            }
+            self.go_to(Step::Tick);
+        }
+        if self.step == Step::Tick {
+            self.go_to(Step::Write);
+            if let Some(offer) = self.next_tick(peers) {
+                return Some(offer);
+            }
+        }
+        None
     }
 
     fn go_to(&mut self, step: Step) {
@@ -168,6 +241,7 @@ impl SocketPorts {
         for slot in self.next..self.high {
             if self.may_read(connections, slot) {
                 self.next = slot.saturating_add(1);
+                self.heard = Some((slot, waiting_for(connections, slot)));
                 return Some(slot);
             }
         }
@@ -200,36 +274,188 @@ impl SocketPorts {
     /// What else there is to do for the connection in the slot.
     fn work(&self, connections: &[Option<Connection>], slot: usize) -> Option<Work> {
         match (self.plugs.get(slot), connections.get(slot)) {
-            (Some(Some(plug)), Some(Some(connection))) => plug.work(connection),
+            (Some(Some(plug)), Some(Some(connection))) => match plug.work(connection) {
+                Some(work) => Some(work),
+                None if self.is_idle(plug) => Some(Work::Close),
+                None => None,
+            },
             _ => None,
         }
     }
 
+    /// Whether a connection asked nothing for too long.
+    fn is_idle(&self, plug: &Plug) -> bool {
+        match self.idle {
+            Some(idle) => plug.rests_for(idle, self.clock.now()) == 0,
+            None => false,
+        }
+    }
+
+    /// Notes that the connection that was read asked something, if it did: then more bytes wait to be written to it.
+    fn note_asked(&mut self, connections: &[Option<Connection>]) {
+        if let Some((slot, before)) = self.heard {
+            self.heard = None;
+            if self.idle.is_some() && before < waiting_for(connections, slot) {
+                self.touch(slot);
+            }
+        }
+    }
+
+    /// Notes that the connection in the slot did something.
+    fn touch(&mut self, slot: usize) {
+        let now = self.clock.now();
+        if let Some(Some(plug)) = self.plugs.get_mut(slot) {
+            plug.touch(now);
+        }
+    }
+
+    /// The next news of a peer.
+    fn next_news(&mut self, peers: &[Peer]) -> Option<Ready> {
+        for at in self.next..self.lines.len() {
+            if let (Some(line), Some(peer)) = (self.lines.get_mut(at), peers.get(at)) {
+                if let Some(news) = line.news(peer) {
+                    self.next = at.saturating_add(1);
+                    return Some(self.of_peer(at, news));
+                }
+            }
+        }
+        None
+    }
+
+    /// The time, to the next peer of which it says something.
+    fn next_tick(&mut self, peers: &[Peer]) -> Option<Ready> {
+        let (now, count) = (self.clock.now(), self.lines.len());
+        for _ in 0..count {
+            let at = self.due;
+            let next = at.saturating_add(1);
+            self.due = if next < count { next } else { 0 };
+            if matches!(peers.get(at), Some(peer) if peer.rests_for(now) == 0) {
+                return Some(self.of_peer(at, PeerNews::Time));
+            }
+        }
+        None
+    }
+
+    /// The next peer that may take bytes.
+    fn next_ask(&mut self, peers: &[Peer]) -> Option<Ready> {
+        for at in self.next..self.lines.len() {
+            if let (Some(line), Some(peer)) = (self.lines.get(at), peers.get(at)) {
+                if line.may_write(peer) {
+                    self.next = at.saturating_add(1);
+                    return Some(self.of_peer(at, PeerNews::Write));
+                }
+            }
+        }
+        self.next = self.lines.len();
+        None
+    }
+
+    /// News of a peer, as they are offered now.
+    fn of_peer(&self, peer: usize, news: PeerNews) -> Ready {
+        Ready::Peer {
+            peer,
+            now: self.clock.now(),
+            news,
+        }
+    }
+
+    /// Whether something is known to be left to do for a peer.
+    fn is_peer_left(&self, peers: &[Peer]) -> bool {
+        for at in 0..self.lines.len() {
+            if let (Some(line), Some(peer)) = (self.lines.get(at), peers.get(at)) {
+                if line.has_news(peer)
+                    || line.may_write(peer)
+                    || peer.rests_for(self.clock.now()) == 0
+                {
+                    return true;
+                }
+            }
+        }
+        false
+    }
+
+    /// Tells of the peers whose answers came since they were lost, or for the first time.
+    fn tell_reached(&mut self, peers: &[Peer]) {
+        for at in 0..self.lines.len() {
+            if let (Some(line), Some(peer)) = (self.lines.get_mut(at), peers.get(at)) {
+                line.tell_reached(peer, &mut self.watch);
+            }
+        }
+    }
+
+    /// For how long nothing is to be done, unless the system tells of something.
+    fn longest_wait(&self, peers: &[Peer]) -> Option<Duration> {
+        let now = self.clock.now();
+        let mut least = u64::MAX;
+        for at in 0..self.lines.len() {
+            if let Some(peer) = peers.get(at) {
+                least = least.min(peer.rests_for(now));
+            }
+        }
+        if let Some(idle) = self.idle {
+            for slot in 0..self.high {
+                if let Some(Some(plug)) = self.plugs.get(slot) {
+                    least = least.min(plug.rests_for(idle, now));
+                }
+            }
+        }
+        if least == u64::MAX {
+            None
+        } else {
+            Some(Duration::from_millis(least))
+        }
+    }
+
+    /// Looks at the clock, where it matters.
+    fn look(&mut self) {
+        if self.idle.is_some() || !self.lines.is_empty() {
+            self.clock.look(self.rt);
+        }
+    }
+
     /// Whether something is known to be left to do behind a round, so that the next one needn't be waited for.
-    fn is_left(&self, connections: &[Option<Connection>]) -> bool {
+    fn is_left(&self, connections: &[Option<Connection>], peers: &[Peer]) -> bool {
         for slot in 0..self.high {
             if self.may_read(connections, slot) || self.work(connections, slot).is_some() {
                 return true;
             }
         }
-        self.is_asked()
+        self.is_asked() || self.is_peer_left(peers)
     }
 
     /// Begins a round: notes what the system tells, once those are turned away who found no slot in the last one. Where nothing is left to do it is waited for.
-    fn begin_round(&mut self, connections: &[Option<Connection>]) -> io::Result<()> {
+    fn begin_round(
+        &mut self,
+        connections: &[Option<Connection>],
+        peers: &[Peer],
+    ) -> io::Result<()> {
+        self.tell_reached(peers);
         if self.is_full() && self.is_asked() {
             self.turn_away();
         }
-        let timeout = if self.is_left(connections) {
+        self.look();
+        let timeout = if self.is_left(connections, peers) {
             Some(Duration::ZERO)
         } else {
-            None
+            self.longest_wait(peers)
         };
         self.go_to(Step::Admit);
         self.poll.poll(&mut self.events, timeout)?;
+        self.look();
+        self.note_events();
+        Ok(())
+    }
+
+    /// Notes what the system told.
+    fn note_events(&mut self) {
+        let first_peer = FIRST_DOOR.saturating_add(self.doors.len());
         for event in self.events.iter() {
             let Token(slot) = event.token();
-            if slot >= FIRST_DOOR {
+            if slot >= first_peer {
+                if let Some(line) = self.lines.get_mut(slot - first_peer) {
+                    line.note(event, self.poll.registry());
+                }
+            } else if slot >= FIRST_DOOR {
                 if let Some(door) = self.doors.get_mut(slot - FIRST_DOOR) {
                     door.knock();
                 }
@@ -237,13 +463,13 @@ impl SocketPorts {
                 plug.note(event, self.poll.registry());
             }
         }
-        Ok(())
     }
 
     /// Brings a connection into the slot, if one waits, and answers the number of its door.
     fn admit(&mut self, slot: usize) -> Option<u8> {
         let (stream, number) = self.next_stream()?;
-        let Ok(plug) = Plug::new(stream, self.poll.registry(), Token(slot)) else {
+        let now = self.clock.now();
+        let Ok(plug) = Plug::new(stream, self.poll.registry(), Token(slot), now) else {
             return None;
         };
         match self.plugs.get_mut(slot) {
@@ -256,15 +482,24 @@ impl SocketPorts {
     }
 }
 
-impl Ports for SocketPorts {
+/// How many bytes wait to be written to the connection in the slot.
+fn waiting_for(connections: &[Option<Connection>], slot: usize) -> usize {
+    match connections.get(slot) {
+        Some(Some(connection)) => connection.to_write().len(),
+        _ => 0,
+    }
+}
+
+impl<R: Net + Clock, W: Watch + Drop> Ports for SocketPorts<'_, R, W> {
     ghost seen = { λ p. None };
 
-    fn ready(&mut self, connections: &[Option<Connection>]) -> Ready {
+    fn ready(&mut self, connections: &[Option<Connection>], peers: &[Peer]) -> Ready {
+        self.note_asked(connections);
         for _ in 0..u64::MAX {
-            if let Some(offer) = self.offer(connections) {
+            if let Some(offer) = self.offer(connections, peers) {
                 return offer;
             }
-            match self.begin_round(connections) {
+            match self.begin_round(connections, peers) {
                 Ok(()) => {}
                 Err(error) if is_passing(&error) => {}
                 Err(_) => return Ready::Stop,
@@ -290,7 +525,13 @@ impl Ports for SocketPorts {
 
     fn write(&mut self, slot: usize, bytes: &[u8]) -> usize {
         match self.plugs.get_mut(slot) {
-            Some(Some(plug)) => plug.write(bytes, self.poll.registry()),
+            Some(Some(plug)) => {
+                let count = plug.write(bytes, self.poll.registry());
+                if count > 0 {
+                    plug.touch(self.clock.now());
+                }
+                count
+            }
             _ => 0,
         }
     }
@@ -304,5 +545,37 @@ impl Ports for SocketPorts {
             self.high = 0;
         }
         self.knock_all();
+    }
+
+    fn call_peer(&mut self, peer: usize) {
+        if let Some(line) = self.lines.get_mut(peer) {
+            line.call(self.rt, self.poll.registry());
+        }
+    }
+
+    fn close_peer(&mut self, peer: usize) {
+        if let Some(line) = self.lines.get_mut(peer) {
+            line.close();
+        }
+    }
+
+    fn read_peer(&mut self, peer: usize, buf: &mut [u8]) -> usize {
+        match self.lines.get_mut(peer) {
+            Some(line) => line.read(buf),
+            None => 0,
+        }
+    }
+
+    fn write_peer(&mut self, peer: usize, bytes: &[u8]) -> usize {
+        match self.lines.get_mut(peer) {
+            Some(line) => line.write(bytes, self.poll.registry()),
+            None => 0,
+        }
+    }
+
+    fn tell_failure(&mut self, peer: usize, why: Failure) {
+        if let Some(line) = self.lines.get_mut(peer) {
+            line.tell_failure(why, &mut self.watch);
+        }
     }
 }

@@ -4,11 +4,15 @@
 //! served as the hub's contract says.
 #![tactic(auto)]
 
+mod clocks;
 mod doors;
 mod edges;
+mod lines;
 mod plugs;
 mod streams;
 mod unix_doors;
+mod watches;
 
 pub use doors::{Door, DoorFault, open_door, path_of};
 pub use edges::SocketPorts;
+pub use watches::Watch;

@@ -32,11 +32,18 @@ pub(crate) struct Plug {
     ended: bool,
     /// No more can be read or written.
     gone: bool,
+    /// When it asked last, took bytes or came, in milliseconds of the edge's clock.
+    since: u64,
 }
 
 impl Plug {
-    /// A connection of which the system tells when something comes.
-    pub(crate) fn new(mut stream: Stream, registry: &Registry, token: Token) -> io::Result<Plug> {
+    /// A connection that came, of which the system tells when something comes.
+    pub(crate) fn new(
+        mut stream: Stream,
+        registry: &Registry,
+        token: Token,
+        now: u64,
+    ) -> io::Result<Plug> {
         stream.register(registry, token, Interest::READABLE)?;
         Ok(Plug {
             stream,
@@ -47,7 +54,60 @@ impl Plug {
             closing: false,
             ended: false,
             gone: false,
+            since: now,
         })
+    }
+
+    /// A connection that is called: the system tells when the call came through or failed.
+    pub(crate) fn calling(
+        mut stream: Stream,
+        registry: &Registry,
+        token: Token,
+    ) -> io::Result<Plug> {
+        stream.register(registry, token, Interest::READABLE | Interest::WRITABLE)?;
+        Ok(Plug {
+            stream,
+            token,
+            readable: false,
+            writable: false,
+            asked: true,
+            closing: false,
+            ended: false,
+            gone: false,
+            since: 0,
+        })
+    }
+
+    pub(crate) fn stream(&self) -> &Stream {
+        &self.stream
+    }
+
+    /// Whether the system told of a call how it went.
+    pub(crate) fn is_settled(&self) -> bool {
+        self.writable
+    }
+
+    pub(crate) fn is_readable(&self) -> bool {
+        self.readable
+    }
+
+    pub(crate) fn is_writable(&self) -> bool {
+        self.writable
+    }
+
+    /// Whether all that was sent was read, or no more can be.
+    pub(crate) fn is_over(&self) -> bool {
+        self.ended || self.gone
+    }
+
+    /// Notes that it asked, or took bytes.
+    pub(crate) fn touch(&mut self, now: u64) {
+        self.since = now;
+    }
+
+    /// How many milliseconds are left of so many in which it may ask nothing.
+    pub(crate) fn rests_for(&self, idle: u64, now: u64) -> u64 {
+        idle.saturating_sub(now.saturating_sub(self.since))
     }
 
     /// Notes what the system told.

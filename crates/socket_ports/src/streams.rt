@@ -75,6 +75,27 @@ impl Stream {
         }
     }
 
+    /// How a call went, once the system told that it did. A host that called itself reached nobody.
+    pub(crate) fn outcome(&self) -> io::Result<()> {
+        let fault = match self {
+            Stream::Unix(stream) => stream.take_error()?,
+            Stream::Tcp(stream) => stream.take_error()?,
+        };
+        if let Some(error) = fault {
+            return Err(error);
+        }
+        match self {
+            Stream::Unix(_) => Ok(()),
+            Stream::Tcp(stream) => {
+                if stream.peer_addr()? == stream.local_addr()? {
+                    return Err(io::ErrorKind::ConnectionRefused.into());
+                }
+                let _ = stream.set_nodelay(true);
+                Ok(())
+            }
+        }
+    }
+
     /// Tells the peer that there is no room for it. What it sent by now is read, so that the system, which gives up a connection
     /// with bytes that nobody read, delivers what was told.
     pub(crate) fn turn_away(mut self) {

@@ -1,4 +1,4 @@
-//! Unix sockets that are their owner's alone.
+//! Unix sockets with a mode.
 //!
 //! A socket is bound in a folder that nobody else may enter, gets its mode there, and then its name. So at no moment anybody
 //! else may connect, whatever the mask of modes is. A name that stands already stays, as it does in binding.
@@ -24,14 +24,15 @@ pub(crate) fn open_unix<R: Files + Net + RandomSource>(
     rt: &R,
     alloc: Global,
     path: &str,
+    mode: u32,
 ) -> Result<UnixListener, DoorFault> {
     if path.len() > MAX_LEN {
         return Err(DoorFault::LongPath);
     }
-    match bind_private(rt, alloc, path) {
+    match bind_private(rt, alloc, path, mode) {
         Err(error) if error.kind() == io::ErrorKind::AlreadyExists => {
             free_path(rt, path)?;
-            told(bind_private(rt, alloc, path))
+            told(bind_private(rt, alloc, path, mode))
         }
         bound => told(bound),
     }
@@ -79,9 +80,10 @@ fn bind_private<R: Files + Net + RandomSource>(
     rt: &R,
     alloc: Global,
     path: &str,
+    mode: u32,
 ) -> io::Result<UnixListener> {
     let folder = private_folder(rt, alloc, parent_of(path))?;
-    let bound = bind_within(rt, alloc, folder.as_str(), path);
+    let bound = bind_within(rt, alloc, folder.as_str(), path, mode);
     let _ = fs::remove_dir(rt, folder.as_str());
     bound
 }
@@ -92,17 +94,23 @@ fn bind_within<R: Files + Net>(
     alloc: Global,
     folder: &str,
     path: &str,
+    mode: u32,
 ) -> io::Result<UnixListener> {
     let made = format!(in alloc; "{folder}/s")?;
-    let bound = bind_and_name(rt, made.as_str(), path);
+    let bound = bind_and_name(rt, made.as_str(), path, mode);
     let _ = fs::remove_file(rt, made.as_str());
     bound
 }
 
 /// Binds a socket at one path, and names it by another, which mustn't be there yet.
-fn bind_and_name<R: Files + Net>(rt: &R, made: &str, path: &str) -> io::Result<UnixListener> {
+fn bind_and_name<R: Files + Net>(
+    rt: &R,
+    made: &str,
+    path: &str,
+    mode: u32,
+) -> io::Result<UnixListener> {
     let listener = UnixListener::bind(rt, made)?;
-    fs::set_permissions(rt, made, Permissions::from_mode(0o600))?;
+    fs::set_permissions(rt, made, Permissions::from_mode(mode))?;
     fs::hard_link(rt, made, path)?;
     Ok(listener)
 }

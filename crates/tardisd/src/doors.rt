@@ -1,11 +1,12 @@
-//! The real doors, which say where they listen.
+//! The real edge: doors, which say where they listen, and connections to peers.
 
+use crate::peers::PeersTold;
 use crate::words::{Faulty, Reading, Served};
-use command_words::{DoorPlan, Place};
+use command_words::{DaemonPlan, DoorPlan};
 use socket_ports::{Door, DoorFault, SocketPorts, open_door, path_of};
-use std::fs;
 use std::net::SocketAddr;
 use std::time::Instant;
+use std::{fs, io};
 use tardisd_main::{Doors, FoundSite, GateFault, number_of};
 
 /// Doors over sockets of the system. That the site is served is told by a line on standard error, so that whoever started
@@ -37,11 +38,12 @@ impl<'a> SocketDoors<'a> {
         self.is_told
     }
 
-    /// Opens the doors, each or none.
-    fn open_all(&mut self, doors: &[DoorPlan<'_>]) -> Result<SocketPorts, GateFault> {
+    /// Opens the doors, each or none, and makes ready for the peers.
+    fn open_all(&mut self, plan: &DaemonPlan<'_>) -> Result<RealPorts<'a>, GateFault> {
+        let doors = plan.doors.as_slice();
         let mut opened = Vec::new(self.rt.alloc());
-        for plan in doors.iter() {
-            match self.open_one(&mut opened, plan) {
+        for door in doors.iter() {
+            match self.open_one(&mut opened, door, plan.mode) {
                 Ok(()) => {}
                 Err(fault) => {
                     self.give_up(doors, opened.len());
@@ -49,7 +51,7 @@ impl<'a> SocketDoors<'a> {
                 }
             }
         }
-        match SocketPorts::new(self.rt, self.rt.alloc(), opened) {
+        match self.ports_of(opened, plan) {
             Ok(ports) => Ok(ports),
             Err(_) => {
                 self.give_up(doors, doors.len());
@@ -58,10 +60,26 @@ impl<'a> SocketDoors<'a> {
         }
     }
 
+    /// The edge over doors that were opened.
+    fn ports_of(&self, opened: Vec<Door>, plan: &DaemonPlan<'_>) -> io::Result<RealPorts<'a>> {
+        let mut peers = Vec::new(self.rt.alloc());
+        for address in plan.peers.iter() {
+            peers.push(String::from_str(self.rt.alloc(), address)?)?;
+        }
+        let watch = PeersTold::new(self.rt);
+        SocketPorts::new(self.rt, self.rt.alloc(), opened, peers, plan.idle, watch)
+    }
+
     /// Opens a door behind the others.
-    fn open_one(&mut self, opened: &mut Vec<Door>, plan: &DoorPlan<'_>) -> Result<(), GateFault> {
+    fn open_one(
+        &mut self,
+        opened: &mut Vec<Door>,
+        plan: &DoorPlan<'_>,
+        mode: u32,
+    ) -> Result<(), GateFault> {
         let address = plan.address;
-        match open_door(self.rt, self.rt.alloc(), address, number_of(plan.kind)) {
+        let number = number_of(plan.kind);
+        match open_door(self.rt, self.rt.alloc(), address, mode, number) {
             Ok(door) => {
                 let bound = door.socket_addr();
                 if self.bound.push(bound).is_err() || opened.push(door).is_err() {
@@ -107,25 +125,28 @@ impl<'a> SocketDoors<'a> {
     }
 }
 
-impl Doors for SocketDoors<'_> {
-    type Ports = SocketPorts;
+/// The edge over sockets of the system, which tells of peers on standard error.
+type RealPorts<'a> = SocketPorts<'a, HostRuntime, PeersTold<'a>>;
+
+impl<'a> Doors for SocketDoors<'a> {
+    type Ports = RealPorts<'a>;
 
     // what a system does isn't stated
-    ghost opens = { λ doors opened. Unit {0} };
+    ghost opens = { λ asked opened. Unit {0} };
 
-    fn open(&mut self, doors: &[DoorPlan<'_>]) -> Result<SocketPorts, GateFault> {
-        self.open_all(doors)
+    fn open(&mut self, plan: &DaemonPlan<'_>) -> Result<RealPorts<'a>, GateFault> {
+        self.open_all(plan)
     }
 
-    fn announce(&mut self, place: Place, doors: &[DoorPlan<'_>], found: Option<FoundSite>) {
+    fn announce(&mut self, plan: &DaemonPlan<'_>, found: Option<FoundSite>) {
         let reading = match found {
             Some(found) => Some(self.reading(found)),
             None => None,
         };
         let bound = self.bound.as_slice();
         let served = Served {
-            place,
-            doors: &*doors,
+            place: plan.place,
+            doors: plan.doors.as_slice(),
             bound,
             reading,
         };

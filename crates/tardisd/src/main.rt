@@ -9,6 +9,7 @@ ghost use Rattle.tardisd_main.specs.Ends.{end_number};
 
 mod doors;
 mod files;
+mod peers;
 mod words;
 
 use disk_forms::FileStore;

@@ -1,14 +1,13 @@
-//! Where connections come from.
+//! The edge of a server: where connections come from, and to which peers they go.
 
-ghost use Rattle.std.specs.Prelude.{◌≡◌, List, Result, map};
-ghost use Rattle.command_words.specs.Doors.{DoorAt, door_at};
-ghost use Rattle.command_words.specs.Daemons.{daemon_of};
+ghost use Rattle.std.specs.Prelude.{◌≡◌, Result};
+ghost use Rattle.command_words.specs.Daemons.{Daemon, daemon_of};
 ghost use Rattle.tardisd_main.specs.declared.endings.GateFault.{GateFault};
 ghost use Rattle.tardisd_main.specs.Doors.{number_of};
 
 use crate::endings::GateFault;
-use command_words::{DaemonPlan, DoorKind, DoorPlan, Place};
-use hub::Ports;
+use command_words::{DaemonPlan, DoorKind};
+use hub::{Fetches, Ports};
 use site_doors::{FOR_ALL, FOR_CLIENTS, FOR_PEERS};
 
 /// What was found of a site in its file.
@@ -28,30 +27,21 @@ pub struct FoundSite {
     pub is_new: bool,
 }
 
-/// Opens the edge at which connections come.
+/// Opens the edge: the doors at which connections come, and the connections to peers.
 pub trait Doors {
     type Ports: Ports + Drop;
 
-    // what opening these doors may come to
-    ghost opens: { List DoorAt → Result Self.Ports GateFault → Type 0 };
+    // what opening the edge that was asked for may come to
+    ghost opens: { Daemon → Result Self.Ports GateFault → Type 0 };
 
-    /// Listens at the doors, at each of them or at none. An address is `unix:` and the path of a Unix socket, or `HOST:PORT` over
-    /// TCP. A connection is told to a hub with the number of its door's kind (`number_of`).
-    fn open(&mut self, doors: &[DoorPlan<'_>]) -> Result<Self::Ports, GateFault>
-        ensures opened { opens (map door_at doors.now) result };
+    /// Listens at the plan's doors, at each of them or at none. An address is `unix:` and the path of a Unix socket, or `HOST:PORT` over
+    /// TCP. A connection is told to a hub with the number of its door's kind (`number_of`). The peers have the numbers of their places among the
+    /// plan's, from 0 on; none is called yet.
+    fn open(&mut self, plan: &DaemonPlan<'_>) -> Result<Self::Ports, GateFault>
+        ensures opened { opens (daemon_of plan.now) result };
 
-    /// Is told that the site at the place is served at the doors, and what was found in its file, where it has one.
-    fn announce(&mut self, place: Place, doors: &[DoorPlan<'_>], found: Option<FoundSite>);
-}
-
-/// Opens the plan's doors.
-pub(crate) fn open_doors<D: Doors>(
-    doors: &mut D,
-    plan: &DaemonPlan<'_>,
-) -> Result<D::Ports, GateFault>
-    ensures { D.opens (daemon_of plan.now).doors result }
-{
-    doors.open(plan.doors.as_slice())
+    /// Is told that the site is served as the plan says, and what was found in its file, where it has one.
+    fn announce(&mut self, plan: &DaemonPlan<'_>, found: Option<FoundSite>);
 }
 
 /// The number by which a site is told through which kind of door a connection came.
@@ -62,5 +52,13 @@ pub fn number_of(kind: DoorKind) -> u8
         DoorKind::All => FOR_ALL,
         DoorKind::Clients => FOR_CLIENTS,
         DoorKind::Peers => FOR_PEERS,
+    }
+}
+
+/// How a hub fetches from the plan's peers.
+pub(crate) fn fetches_of(plan: &DaemonPlan<'_>) -> Fetches {
+    Fetches {
+        peers: plan.peers.len() as u8,
+        seconds: plan.every,
     }
 }

@@ -15,12 +15,12 @@ ghost use Rattle.site_doors.specs.Kept.{resting};
 ghost use Rattle.tardisd_main.specs.Files.{front_at, opens_at, not_opened, IsRefused};
 ghost use Rattle.tardisd_main.specs.Stores.{KeepsAs, GoesOn, ServedFrom, ServedOver};
 
-use crate::doors::{Doors, FoundSite, open_doors};
+use crate::doors::{Doors, FoundSite, fetches_of};
 use crate::endings::{DaemonEnd, FileFault, ending_of};
-use crate::sites::upkeep_of;
+use crate::sites::serve_alive;
 use command_words::{DaemonPlan, Place};
 use disk_store::{BytewiseDisk, Store};
-use hub::{Ports, serve};
+use hub::{Fetches, Ports};
 use log_groups::LogFront;
 use rest_site::RestSite;
 use site_doors::AskedLog;
@@ -107,7 +107,7 @@ fn serve_from<D: Doors, K: BytewiseDisk>(
         Ok(opened) => {
             let OpenedLog { log, found } = opened;
             let told = found_site(log.machine(), &found);
-            serve_log(alloc, log, told, plan, doors)
+            serve_log(alloc, log, told, life, plan, doors)
         }
         Err(refused) => {
             let NotOpened { end, disk } = refused;
@@ -121,16 +121,17 @@ fn serve_log<D: Doors, K: BytewiseDisk>(
     alloc: Global,
     log: Logged<RestSite, K>,
     found: FoundSite,
+    life: [u8; 16],
     plan: &DaemonPlan<'_>,
     doors: &mut D,
 ) -> (DaemonEnd, K)
     ensures { (bodies : List (List ℕ)) (site : Site) (marks : List Mark) → Stands resting K.Disk log (starts site bodies) marks
         → GoesOn D.opens D.Ports.seen K.Disk (daemon_of plan.now) result.0 log.file.front bodies site result.1 }
 {
-    match open_doors(doors, plan) {
+    match doors.open(plan) {
         Ok(ports) => {
-            doors.announce(plan.place, plan.doors.as_slice(), Some(found));
-            serve_ports(alloc, log, plan.tidy, ports)
+            doors.announce(plan, Some(found));
+            serve_ports(alloc, log, life, plan.tidy, fetches_of(plan), ports)
         }
         Err(fault) => (DaemonEnd::Gate(fault), log.close()),
     }
@@ -140,14 +141,16 @@ fn serve_log<D: Doors, K: BytewiseDisk>(
 fn serve_ports<P: Ports + Drop, K: BytewiseDisk>(
     alloc: Global,
     log: Logged<RestSite, K>,
+    life: [u8; 16],
     tidy: bool,
+    fetches: Fetches,
     ports: P,
 ) -> (DaemonEnd, K)
     ensures { (bodies : List (List ℕ)) (site : Site) (marks : List Mark) → Stands resting K.Disk log (starts site bodies) marks
         → ServedOver P.seen K.Disk tidy result.0 log.file.front bodies site result.1 ports }
 {
     let (mut asked, mut ports) = (AskedLog { alloc, log }, ports);
-    match serve(alloc, &mut asked, &mut ports, upkeep_of(tidy)) {
+    match serve_alive(alloc, &mut asked, life, tidy, fetches, &mut ports) {
         Ok(end) => (ending_of(end), asked.log.close()),
         Err(NoMemory) => (DaemonEnd::NoMemory, asked.log.close()),
     }

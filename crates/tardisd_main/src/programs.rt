@@ -12,7 +12,7 @@ ghost use Rattle.tardisd_main.specs.Runs.{AreNone, KeepsFile, Serves, ServesAs, 
 ghost use Rattle.tardisd_main.specs.Stores.{KeepsAs};
 
 use crate::asks::plan_of;
-use crate::doors::{Doors, open_doors};
+use crate::doors::{Doors, fetches_of};
 use crate::endings::{DaemonEnd, ending_of};
 use crate::files::serve_file;
 use crate::helps::{USAGE, VERSION, help_text};
@@ -119,7 +119,7 @@ fn serve_plan<D: Doors, K: BytewiseDisk, S: Store<Disk = K>>(
     ensures neither { (result ≡ DaemonEnd.Usage → ⊥) × (result ≡ DaemonEnd.WriteFailed → ⊥) }
 {
     match plan.file {
-        None => open_and_serve(alloc, keys, plan, doors),
+        None => open_and_serve(alloc, keys, life, plan, doors),
         Some(path) => serve_file(alloc, keys, life, plan, path, doors, store),
     }
 }
@@ -128,16 +128,25 @@ fn serve_plan<D: Doors, K: BytewiseDisk, S: Store<Disk = K>>(
 fn open_and_serve<D: Doors>(
     alloc: Global,
     keys: RandomState,
+    life: [u8; 16],
     plan: &DaemonPlan<'_>,
     doors: &mut D,
 ) -> DaemonEnd
     requires place { IsPlace plan.now.place }
     ensures { ServesAs D.opens D.Ports.seen doors.old doors.new (daemon_of plan.now) result }
 {
-    match open_doors(doors, plan) {
+    match doors.open(plan) {
         Ok(mut ports) => {
-            doors.announce(plan.place, plan.doors.as_slice(), None);
-            match serve_place(alloc, keys, plan.place, plan.tidy, &mut ports) {
+            doors.announce(plan, None);
+            match serve_place(
+                alloc,
+                keys,
+                life,
+                plan.place,
+                plan.tidy,
+                fetches_of(plan),
+                &mut ports,
+            ) {
                 Ok(end) => ending_of(end),
                 Err(NoMemory) => DaemonEnd::NoMemory,
             }

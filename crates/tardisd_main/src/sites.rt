@@ -8,13 +8,14 @@ ghost use Rattle.command_words.specs.Places.{IsPlace};
 ghost use Rattle.tardisd_main.specs.Sites.{upkeep_rule, ServesPlace};
 
 use command_words::Place;
-use hub::{End, Ports, Upkeep, serve};
+use hub::{End, Fetches, Ports, Upkeep, serve};
 use rest_machine::Settling;
-use session_core::SiteCore;
+use rest_site::RestSite;
 use site_doors::AskedSite;
 use std::alloc::Global;
 use std::hash::RandomState;
-use tardis_base::NoMemory;
+use tardis_base::{NoMemory, ReplyBuf};
+use wire_lives::life_codes::BEGIN_LIFE;
 use wire_talk::{reply_codes, request_codes};
 
 /// The request RaiseAuto.
@@ -37,8 +38,10 @@ const FULL: [u8; 5] = [reply_codes::TIDIED, 0, 0, 0, 64];
 pub fn serve_place<P: Ports>(
     alloc: Global,
     keys: RandomState,
+    life: [u8; 16],
     place: Place,
     tidy: bool,
+    fetches: Fetches,
     ports: &mut P,
 ) -> Result<End, NoMemory>
     requires place { IsPlace place }
@@ -46,8 +49,8 @@ pub fn serve_place<P: Ports>(
     ensures settled { IfOk result (λ end. end ≡ End.Unsettled → ⊥) }
     ensures nothing { OnErr result (ports.new ≡ ports.old) }
 {
-    match SiteCore::new(alloc, keys, place.limits(), place.site) {
-        Ok(site) => serve_machine(alloc, AskedSite { alloc, site }, tidy, ports),
+    match RestSite::new(alloc, keys, place.limits(), place.site) {
+        Ok(site) => serve_machine(alloc, AskedSite { alloc, site }, life, tidy, fetches, ports),
         Err(NoMemory) => Err(NoMemory),
     }
 }
@@ -57,22 +60,47 @@ pub fn serve_place<P: Ports>(
 fn serve_machine<M: Settling, P: Ports>(
     alloc: Global,
     machine: M,
+    life: [u8; 16],
     tidy: bool,
+    fetches: Fetches,
     ports: &mut P,
 ) -> Result<End, NoMemory>
     requires sure { (n : ℕ) → n < 256 → M.plain.is_sure (n + 1, close) ≡ true }
     requires faultless { (m : M) → M.faults m ≡ 0 }
-    ensures served { IfOk result (λ end. (s : M.Plain) → M.stands machine s
-        → IsRun (behind_doors M.plain M.through M.is_settled M.settled) (upkeep_rule tidy) (λ t. (m : M) × M.stands m t) s end (P.seen ports.old) (P.seen ports.new)) }
-    ensures settled { IfOk result (λ end. end ≡ End.Unsettled → ⊥) }
-    ensures nothing { OnErr result (ports.new ≡ ports.old) }
 {
     let mut machine = machine;
-    serve(alloc, &mut machine, ports, upkeep_of(tidy))
+    serve_alive(alloc, &mut machine, life, tidy, fetches, ports)
+}
+
+/// Has a machine begin this life, unless it has one, and serves the connections of an edge by it.
+pub(crate) fn serve_alive<M: Settling, P: Ports>(
+    alloc: Global,
+    machine: &mut M,
+    life: [u8; 16],
+    tidy: bool,
+    fetches: Fetches,
+    ports: &mut P,
+) -> Result<End, NoMemory>
+    requires sure { (n : ℕ) → n < 256 → M.plain.is_sure (n + 1, close) ≡ true }
+{
+    begin_life(alloc, machine, life)?;
+    serve(alloc, machine, ports, upkeep_of(tidy), fetches)
+}
+
+/// Has the site begin this life, where it has none yet.
+fn begin_life<M: Settling>(
+    alloc: Global,
+    machine: &mut M,
+    life: [u8; 16],
+) -> Result<(), NoMemory> {
+    let mut reply = ReplyBuf::new(alloc)?;
+    let mut request = [BEGIN_LIFE; 17];
+    request[1..].copy_from_slice(&life);
+    machine.act(0, &request, &mut reply)
 }
 
 /// The upkeep of a site, with `tidy`.
-pub(crate) fn upkeep_of(tidy: bool) -> Option<Upkeep<'static>>
+fn upkeep_of(tidy: bool) -> Option<Upkeep<'static>>
     ensures rule { option_map rule_of result ≡ upkeep_rule tidy }
     ensures often { IfSome (option_map rule_of result) (λ rule. 0 < rule.after) }
 {

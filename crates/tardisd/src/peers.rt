@@ -1,0 +1,146 @@
+//! What is told of peers on standard error: that one is reached, that it is lost or can't be reached, and what is to be done.
+
+use site_peers::{Failure, NO_VERDICT};
+use socket_ports::Watch;
+use std::{fmt, io};
+use wire_lives::life_codes::{ANOTHER_LIFE, NO_INTRODUCTION, NO_LIFE, OTHER_SITES, OWN_NUMBER};
+
+/// Tells of peers on standard error, in a line each time.
+#[derive(Drop)]
+pub(crate) struct PeersTold<'a> {
+    rt: &'a HostRuntime,
+}
+
+impl<'a> PeersTold<'a> {
+    pub(crate) fn new(rt: &'a HostRuntime) -> PeersTold<'a> {
+        PeersTold { rt }
+    }
+}
+
+impl Watch for PeersTold<'_> {
+    fn reached(&mut self, address: &str, again: bool) {
+        // where standard error is closed, nobody waits for the line
+        let _ = self.rt.eprintln(Reached { address, again });
+    }
+
+    fn failed(&mut self, address: &str, before: bool, why: Failure, said: Option<io::ErrorKind>) {
+        let lost = Lost {
+            address,
+            before,
+            why,
+            said,
+        };
+        let _ = self.rt.eprintln(lost);
+    }
+}
+
+/// The line that a peer is reached.
+#[derive(Clone, Copy)]
+struct Reached<'a> {
+    address: &'a str,
+    again: bool,
+}
+
+impl fmt::Display for Reached<'_> {
+    fn fmt<W: fmt::Write>(&self, f: &mut fmt::Formatter<W>) -> fmt::Result {
+        let Reached { address, again } = *self;
+        if again {
+            write!(f, "tardisd: peer {address}: reached again")
+        } else {
+            write!(f, "tardisd: peer {address}: reached")
+        }
+    }
+}
+
+/// The line that a peer is lost, or wasn't reached.
+#[derive(Clone, Copy)]
+struct Lost<'a> {
+    address: &'a str,
+    before: bool,
+    why: Failure,
+    said: Option<io::ErrorKind>,
+}
+
+impl fmt::Display for Lost<'_> {
+    fn fmt<W: fmt::Write>(&self, f: &mut fmt::Formatter<W>) -> fmt::Result {
+        let what = if self.before { "lost" } else { "not reached" };
+        write!(f, "tardisd: peer {}: {what}: ", self.address)?;
+        match self.why {
+            Failure::NotReached => write_said(f, self.said)?,
+            Failure::NotMet { why } => write_verdict(f, why)?,
+            why => write_failure(f, why)?,
+        }
+        write!(
+            f,
+            "; called again in a second, and then after pauses that double up to a minute"
+        )
+    }
+}
+
+/// Writes why a call failed, by what the system said.
+fn write_said<W: fmt::Write>(
+    f: &mut fmt::Formatter<W>,
+    said: Option<io::ErrorKind>,
+) -> fmt::Result {
+    match said {
+        Some(io::ErrorKind::ConnectionRefused | io::ErrorKind::NotFound) => {
+            write!(f, "nobody listens there")
+        }
+        Some(io::ErrorKind::PermissionDenied) => write!(
+            f,
+            "this user may not connect there: start the peer with another --mode, or under this user"
+        ),
+        Some(io::ErrorKind::InvalidInput) => write!(
+            f,
+            "the address isn't unix:PATH or HOST:PORT, or its host isn't known"
+        ),
+        Some(io::ErrorKind::WouldBlock) => write!(f, "too many calls wait there"),
+        Some(kind) => write!(f, "the system says {kind}"),
+        None => write!(f, "the call failed"),
+    }
+}
+
+/// Writes why a peer wasn't met, and what is to be done.
+fn write_verdict<W: fmt::Write>(f: &mut fmt::Formatter<W>, why: u8) -> fmt::Result {
+    match why {
+        ANOTHER_LIFE => write!(
+            f,
+            "another site had its number before, or it lost what it had: start it with its file, or with a --site that was never used"
+        ),
+        OWN_NUMBER => write!(
+            f,
+            "it has the number of this site: start one of them with another --site, or name another peer"
+        ),
+        OTHER_SITES => write!(
+            f,
+            "it is one of another number of sites: start all with the same --sites"
+        ),
+        NO_INTRODUCTION => write!(
+            f,
+            "it doesn't introduce itself: it has no room, or is no tardisd of this version"
+        ),
+        NO_LIFE => write!(f, "this site has no life yet: start it again"),
+        NO_VERDICT => write!(f, "there was no memory to meet it"),
+        _ => write!(f, "this site doesn't meet it"),
+    }
+}
+
+/// Writes why an exchange failed otherwise.
+fn write_failure<W: fmt::Write>(f: &mut fmt::Formatter<W>, why: Failure) -> fmt::Result {
+    match why {
+        Failure::NotReached => write!(f, "the call failed"),
+        Failure::Late => write!(f, "no answer came in 30 seconds"),
+        Failure::Cut => write!(f, "it ended the connection before its answer was whole"),
+        Failure::LongFrame { len } => {
+            write!(f, "it sent a frame of {len} bytes, so it is no tardisd")
+        }
+        Failure::NotMet { why } => write_verdict(f, why),
+        Failure::NotABatch => write!(
+            f,
+            "it doesn't tell what it knows: name its door for all, or that for peers"
+        ),
+        Failure::Unasked => write!(f, "it sent what it wasn't asked for, so it is no tardisd"),
+        Failure::NoCounts => write!(f, "this site told no counts"),
+        Failure::NoMemory => write!(f, "there was no memory for its answer"),
+    }
+}
