@@ -1,5 +1,5 @@
 -- What is counted of a machine's replies.
-use Rattle.std.proofs.Common.{◌≡◌, ℕ, ◌+◌, ◌<◌, ◌≤◌, Bool, true, false, List, [], ◌∷◌, ◌++◌, length, Option, Some, None, ◌⊎◌, ◌∙◌, refl, sym, ap, subst, inl, inr, arith}
+use Rattle.std.proofs.Common.{◌≡◌, ℕ, ◌+◌, ◌<◌, ◌≤◌, Bool, true, false, List, [], ◌∷◌, length, Option, Some, None, ◌∙◌, refl, sym, ap, subst, inl, inr, arith}
 use Rattle.std.specs.Prelude.{filter}
 use Rattle.tardis_base.specs.Plain.{Event, PlainMachine, Answers, no_memory}
 use Rattle.site_peers.specs.declared.peers.Peer.{Peer}
@@ -33,15 +33,15 @@ counts_of : {S : Type 0} (m : PlainMachine S) (n : Noted S) (es : List Event) (y
 counts_of m n [] [] t p = record { answers = ap (λ x. x.state) p; counts = ap (λ x. x.tally) p ∙ noted_none n.tally }
 counts_of m n (e ∷ es) (y ∷ ys) t p = elim p as (λ _. Counts m n (e ∷ es) (y ∷ ys) t) [
   | inl a ↦
-    let next = (noting m).step n e in
-    let rest = counts_of m next es ys t a.1 in
-    record {
-      answers = inl (a.0, rest.answers);
-      counts = noted_more n.tally next.tally t.tally (y ∷ []) ys (ap (λ z. noted n.tally (z ∷ [])) (sym a.0)) rest.counts;
-    }
+      let next = (noting m).step n e in
+      let rest = counts_of m next es ys t a.1 in
+      record {
+        answers = inl (a.0, rest.answers);
+        counts = noted_more n.tally next.tally t.tally (y ∷ []) ys (ap (λ z. noted n.tally (z ∷ [])) (sym a.0)) rest.counts;
+      }
   | inr b ↦
-    let rest = counts_of m n es ys t b.2 in
-    record { answers = inr (b.0, b.1, rest.answers); counts = noted_want n.tally t.tally y ys b.0 rest.counts }
+      let rest = counts_of m n es ys t b.2 in
+      record { answers = inr (b.0, b.1, rest.answers); counts = noted_want n.tally t.tally y ys b.0 rest.counts }
 ]
 counts_of m n [] (y ∷ ys) t p = absurd p
 counts_of m n (e ∷ es) [] t p = absurd p

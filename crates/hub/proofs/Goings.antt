@@ -1,17 +1,16 @@
 -- A run goes on by a turn of a peer.
-use Rattle.std.proofs.Common.{◌≡◌, ◌≢◌, ℕ, ◌+◌, ◌<◌, ◌≤◌, false, List, true, [], ◌∷◌, ◌++◌, length, take, get_or, Option, Some, None, ◌⊎◌, inl, inr, refl}
+use Rattle.std.proofs.Common.{◌≡◌, ◌≢◌, ℕ, ◌+◌, ◌<◌, ◌≤◌, List, [], ◌∷◌, ◌++◌, length, get_or, Option, Some, ◌⊎◌, inl, inr, refl}
 use Rattle.std.proofs.Common.{sym, ◌∙◌, subst, ap, arith}
-use Rattle.std.specs.Prelude.{Bool, ◌*◌, ◌==◌, slice_get, slice_set, IfSome}
+use Rattle.std.specs.Prelude.{◌*◌, ◌==◌, slice_get, slice_set, IfSome}
 use Rattle.std.proofs.lemmas.Bool.{cases_eq, eq-eqb, eqb-true, false_from_ne_true}
 use Rattle.std.proofs.lemmas.Option.{slice_get_within, slice_get-get_or}
-use Rattle.tardis_base.specs.Plain.{PlainMachine, Answers}
+use Rattle.tardis_base.specs.Plain.{PlainMachine}
 use Rattle.site_peers.specs.declared.peers.Peer.{Peer}
 use Rattle.site_peers.specs.declared.deeds.Deed.{Deed}
 use Rattle.site_peers.specs.Moves.{News, Moves}
 use Rattle.site_peers.specs.Runs.{PeerTurn, Went}
 use Rattle.hub.specs.declared.ports.Fetches.{Fetches}
 use Rattle.hub.specs.declared.ports.PeerNews.{PeerNews}
-use Rattle.hub.specs.declared.ports.Ready.{Ready}
 use Rattle.hub.specs.declared.ports.Ready.TheVariants.{Peer as OfPeer}
 use Rattle.hub.specs.declared.ports.Seen.{Seen}
 use Rattle.hub.specs.Settlings.{PlainSettling}
@@ -24,7 +23,7 @@ use Rattle.hub.specs.Runs.{MaySend}
 use Rattle.hub.specs.Keeping.{Keeps, Settles, AreBefore, WentOn, IsToldBehind, FetchesOn, IsOnly, PeerTurned}
 use Rattle.hub.proofs.Holding.{each_talk}
 use Rattle.hub.proofs.Serving.{noted_none}
-use Rattle.hub.proofs.Turning.{Settling, settled_at, tells_none}
+use Rattle.hub.proofs.Turning.{settled_at, tells_none}
 
 -- one peer had a turn, and the others had none
 went_there : (every n : ℕ) (p q : Peer) (t : PeerTurn) (old new : List Peer) (turns : ℕ → List PeerTurn) → ((k : ℕ) → IfSome (slice_get old k) (Went every (turns k))) →

@@ -1,5 +1,5 @@
 -- Laws of the peers of runs.
-use Rattle.std.proofs.Common.{◌≡◌, ℕ, ◌≤◌, Bool, true, false, List, [], ◌∷◌, length, refl, sym, subst}
+use Rattle.std.proofs.Common.{ℕ, ◌≤◌, Bool, true, false, List, [], ◌∷◌, length, refl, subst}
 use Rattle.std.specs.Prelude.{◌*◌, ◌==◌}
 use Rattle.std.proofs.lemmas.Bool.{eq-eqb}
 use Rattle.site_peers.specs.declared.peers.Peer.{Peer}
@@ -7,7 +7,7 @@ use Rattle.site_peers.specs.Runs.{PeerTurn, Went, TurnsAreShort, ExchangesAreWho
 use Rattle.hub.specs.declared.ports.Fetches.{Fetches}
 use Rattle.hub.specs.Turns.{Turn, Rested, Opened, Missed, TurnedAway, Received, Sent, Ended, KeptUp, Settled, PeerDid, its_own, turns_of, IsPeer, ArePeers}
 use Rattle.hub.specs.Runs.{AreServed}
-use Rattle.hub.specs.PeerLaws.{IsShort, AreShort, PeersAreFair, FetchesAreWhole}
+use Rattle.hub.specs.PeerLaws.{IsShort, PeersAreFair, FetchesAreWhole}
 
 -- a peer as it was before the newest turn
 was_led : (every : ℕ) (b : Bool) (t : PeerTurn) (older : List PeerTurn) (p : Peer) → Went every (its_own b t older) p → (q : Peer) × Went every older q

@@ -1,5 +1,5 @@
 -- A machine whose replies are counted.
-use Rattle.std.specs.Prelude.{ℕ, List, [], ◌∷◌, None}
+use Rattle.std.specs.Prelude.{ℕ, [], ◌∷◌, None}
 use Rattle.tardis_base.specs.Plain.{PlainMachine}
 use Rattle.hub.specs.Upkeeps.{TallyState, first_tally, noted}
 

@@ -1,5 +1,5 @@
 -- What a turn of a peer is: what the edge offered, what it sees, and what was asked of the machine.
-use Rattle.std.specs.Prelude.{◌≡◌, ℕ, ◌<◌, Bool, true, false, List, [], ◌∷◌, ◌++◌, length}
+use Rattle.std.specs.Prelude.{◌≡◌, ℕ, ◌<◌, Bool, true, false, List, [], ◌∷◌, length}
 use Rattle.tardis_base.specs.Sizes.{piece}
 use Rattle.tardis_base.specs.Plain.{PlainMachine, Answers}
 use Rattle.site_peers.specs.declared.peers.Peer.{Peer}

@@ -9,15 +9,14 @@ mod memory;
 mod noting;
 mod ports;
 mod serves;
-#[cfg(test)]
-mod tests;
 mod turns;
 mod upkeeps;
 mod waitings;
 
 pub use connections::Connection;
 pub use laws::{
-    fetches_are_whole, one_trail, one_trail_as_seen, one_trail_behind_doors, one_trail_behind_doors_as_seen,
+    fetches_are_whole, one_trail, one_trail_as_seen, one_trail_behind_doors,
+    one_trail_behind_doors_as_seen,
 };
 pub use memory::{MemoryPorts, Move};
 pub use ports::{Fetches, PeerNews, Ports, Ready, Seen};

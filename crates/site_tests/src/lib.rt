@@ -47,6 +47,8 @@ mod of_load_run;
 #[cfg(test)]
 mod of_merges;
 #[cfg(test)]
+mod of_peers;
+#[cfg(test)]
 mod of_session_serve;
 #[cfg(test)]
 mod of_site_commands;

@@ -1,4 +1,4 @@
-use Rattle.std.proofs.Common.{arith, slice_set, slice_get, refl, subst, sym}
+use Rattle.std.proofs.Common.{arith, slice_set, subst, sym}
 use Rattle.hub.specs.Settlings.{behind_doors}
 use Rattle.hub.specs.Keeping.{PeerWaits}
 use Rattle.hub.proofs.Goings.{no_such_peer, only_set}
@@ -10,27 +10,27 @@ returns-then-peer-peers-clause-turned g c = λ on.
     (omega (arith, c.if-peer-peers.true))
 
 pub returns-in-Time-clause-turned : goal.returns-in-Time-clause-turned
-returns-in-Time-clause-turned g c = 
+returns-in-Time-clause-turned g c =
     rw c.in-Time.is (λ on. c.tick.ensures.turned c.args.peers.now (slice_set c.args.peers.now c.args.peer c.tick.new.at)
     (only_set c.args.peers.now c.args.peer c.index-peers-peer.result c.tick.new.at (omega (arith, c.if-peer-peers.false))))
 
 pub returns-in-Through-clause-turned : goal.returns-in-Through-clause-turned
-returns-in-Through-clause-turned g c = 
+returns-in-Through-clause-turned g c =
     rw c.in-Through.is (λ on. c.connect.ensures.turned c.args.peers.now (slice_set c.args.peers.now c.args.peer c.connect.new.at)
     (only_set c.args.peers.now c.args.peer c.index-peers-peer-in-Through.result c.connect.new.at (omega (arith, c.if-peer-peers.false))))
 
 pub returns-in-Over-clause-turned : goal.returns-in-Over-clause-turned
-returns-in-Over-clause-turned g c = 
+returns-in-Over-clause-turned g c =
     rw c.in-Over.is (λ on. c.end.ensures.turned c.args.tally.now c.args.peers.now (slice_set c.args.peers.now c.args.peer c.end.new.at)
     (only_set c.args.peers.now c.args.peer c.index-peers-peer-in-Over.result c.end.new.at (omega (arith, c.if-peer-peers.false))))
 
 pub returns-in-Read-clause-turned : goal.returns-in-Read-clause-turned
-returns-in-Read-clause-turned g c = 
+returns-in-Read-clause-turned g c =
     rw c.in-Read.is (λ on. c.hear.ensures.turned c.args.tally.now c.args.peers.now (slice_set c.args.peers.now c.args.peer c.hear.new.at)
     (only_set c.args.peers.now c.args.peer c.index-peers-peer-in-Read.result c.hear.new.at (omega (arith, c.if-peer-peers.false))))
 
 pub returns-in-Write-clause-turned : goal.returns-in-Write-clause-turned
-returns-in-Write-clause-turned g c = 
+returns-in-Write-clause-turned g c =
     rw c.in-Write.is (λ on. c.tell.ensures.turned on c.args.tally.now c.args.peers.now (slice_set c.args.peers.now c.args.peer c.tell.new.at)
     (only_set c.args.peers.now c.args.peer c.index-peers-peer-in-Write.result c.tell.new.at (omega (arith, c.if-peer-peers.false))))
 

@@ -1,4 +1,4 @@
-use Rattle.std.proofs.Common.{◌≡◌, ◌<◌, [], ◌∷◌, length, take, refl, subst, rules}
+use Rattle.std.proofs.Common.{[], ◌∷◌, length, take, refl, subst}
 use Rattle.hub.specs.Settlings.{behind_doors}
 use Rattle.hub.specs.Telling.{Tells}
 use Rattle.site_peers.specs.Moves.{waiting}

@@ -4,9 +4,8 @@ ghost use Rattle.std.specs.Prelude.{◌≡◌, ◌==◌, ◌∷◌, [], ℕ, Boo
 ghost use Rattle.std.specs.Prelude.{refl};
 ghost use Rattle.std.proofs.Common.{inl};
 
-use crate::{End, Fetches, MemoryPorts, Move, PeerNews, Seen, Upkeep, serve};
+use hub::{End, Fetches, MemoryPorts, Move, PeerNews, Seen, Upkeep, serve};
 use rest_machine::Settling;
-use site_peers::Failure;
 use std::alloc::Global;
 use std::process::Abort;
 use tardis_base::{ByteList, NoMemory, ReplyBuf};
@@ -158,10 +157,7 @@ fn letter_of(call: &Seen) -> Option<u8> {
             offered: 10,
             ..
         } => Some(b'w'),
-        Seen::ToldFailure {
-            peer: 0,
-            why: Failure::NotReached,
-        } => Some(b'!'),
+        Seen::ToldFailure { peer: 0, .. } => Some(b'!'),
         Seen::Accepted { .. } => Some(b'+'),
         Seen::ReadFrom { .. } => Some(b'a'),
         Seen::WroteTo { .. } => Some(b'A'),
@@ -174,9 +170,9 @@ fn letter_of(call: &Seen) -> Option<u8> {
 /// machine was asked, and the letters of the calls that the edge saw.
 fn came_of(rt: &impl Abort, alloc: Global, letters: &[u8], settles: u8) -> (End, u8, Vec<u8>) {
     let mut moves = Vec::new(alloc);
-    let mut now = 0;
+    let mut now: u64 = 0;
     for letter in letters {
-        now += 500;
+        now = now.saturating_add(500);
         moves
             .push(move_of(rt, alloc, *letter, now))
             .expect(rt, "room");
