@@ -47,7 +47,12 @@ class Collection(NamedTuple):
     count: int  # type: ignore[assignment]
 
 
-Thing = Union[Record, Consent, Collection]
+class Life(NamedTuple):
+    site: int
+    life: bytes
+
+
+Thing = Union[Record, Consent, Collection, Life]
 
 
 class NoLog(Exception):
@@ -128,6 +133,8 @@ def thing_spelling(thing: Thing) -> bytes:
             + bytes([len(thing.writes)]) + writes
     if isinstance(thing, Consent):
         return b"\2" + struct.pack(">HI", thing.site, thing.number) + id_spelling(thing.floor) + struct.pack(">I", thing.stated)
+    if isinstance(thing, Life):
+        return b"\4" + struct.pack(">H", thing.site) + thing.life
     return b"\3" + struct.pack(">I", thing.count)
 
 
@@ -162,6 +169,8 @@ class Fields:
             return Consent(self.number(2), self.number(4), self.id(), self.number(4))
         if kind == 3:
             return Collection(self.number(4))
+        if kind == 4:
+            return Life(self.number(2), self.take(LIFE))
         raise ValueError("nothing that lasts has the kind %d" % kind)
 
 

@@ -1,14 +1,14 @@
 -- What lasts of a trail may be taken back.
-use Rattle.std.proofs.Common.{◌≡◌, ℕ, ◌-◌, ◌<◌, ◌≤◌, Bool, true, false, ◌==◌, ◌&&◌, not, List, [], ◌∷◌, ◌++◌, length, get_or, set, Option, Some, None, IsTrue, IsFalse, inl, inr, refl}
+use Rattle.std.proofs.Common.{◌≡◌, ℕ, ◌-◌, Bool, true, false, ◌==◌, ◌&&◌, List, [], ◌∷◌, ◌++◌, length, Option, Some, None, IsTrue, IsFalse, inl, inr, refl}
 use Rattle.std.proofs.Common.{sym, ap, subst, ◌∙◌, arith, if◌then◌else◌, nat_le, leb-true, lt-ltb, eqb-true, ltb-true, ltb-false, unwrap_or}
-use Rattle.std.specs.Prelude.{◌⊎◌, option_to_list, option_map, is_none, is_some, nat_lt, ◌^◌}
+use Rattle.std.specs.Prelude.{◌⊎◌, option_to_list, option_map, is_none, is_some, nat_lt}
 use Rattle.std.specs.List.{list_all}
 use Rattle.std.specs.Bool.{then_some}
 use Rattle.std.specs.Option.{option_map_or, option_and_then}
 use Rattle.std.proofs.lemmas.Bool.{both_ways, cases_Bool, cond-true, cond-false, and_parts, and_from, eq-eqb, ne_eqb}
 use Rattle.std.proofs.lemmas.Option.{none-some}
 use Rattle.std.proofs.lemmas.List.{get_or-set_same, set_past}
-use Rattle.tardis_base.specs.Plain.{Event, Answers}
+use Rattle.tardis_base.specs.Plain.{Event}
 use Rattle.tardis_base.specs.Valid.{is_u16, is_within, are_limits}
 use Rattle.tardis_base.specs.declared.records.Limits.{Limits}
 use Rattle.tardis_base.specs.declared.records.Item.TheVariants.{State, Promise}
@@ -17,7 +17,7 @@ use Rattle.wire_talk.specs.Laws.{RequestsHaveOneSpelling}
 use Rattle.wire_talk.specs.RequestReadings.{request_of}
 use Rattle.wire_lives.specs.declared.introductions.Introduction.{Introduction}
 use Rattle.wire_lives.specs.Spellings.{is_life, is_placed}
-use Rattle.wire_lives.specs.Readings.{introduction_of, life_in}
+use Rattle.wire_lives.specs.Readings.{introduction_of}
 use Rattle.wire_lives.specs.Laws.{IntroductionsHaveOneSpelling}
 use Rattle.plain_site.specs.Site.{Site}
 use Rattle.plain_site.specs.Step.{step, site_machine}
@@ -29,12 +29,12 @@ use Rattle.rest_laws.proofs.Trails.{event-adds}
 use Rattle.rest_laws.proofs.Valid.{what-lasts-is-spelled}
 use Rattle.rest_laws.proofs.Fitting.{what-lasts-fits}
 use Rattle.site_lives.specs.declared.lives.NewLife.{NewLife}
-use Rattle.site_lives.specs.Lives.{Life, Lives, life_of, with_life, with_new, new_life, is_another, verdict, introduced, meet, begun, begin_life, is_of_lives, lives_answer}
+use Rattle.site_lives.specs.Lives.{Life, Lives, life_of, with_life, with_new, new_life, is_another, verdict, introduced, meet, begun, begin_life, lives_answer}
 use Rattle.site_lives.specs.Lives.{fits_life}
-use Rattle.site_lives.specs.Acquainted.{Acquainted, about_lives, with_news, acquainted_machine}
+use Rattle.site_lives.specs.Acquainted.{Acquainted, about_lives, acquainted_machine}
 use Rattle.site_lives.specs.Things.{LastingThing, OfSite, OfLives, all_at_rest, thing_of_event, with_thing, fits_thing, replay_things, all_things_fit, is_thing, is_new_life, are_things}
 use Rattle.site_lives.specs.RestLaws.{things_of_answers, OwnCameFirst, AllFits}
-use Rattle.site_lives.proofs.Stays.{of-it, IsMet, is-met, answer-keeps}
+use Rattle.site_lives.proofs.Stays.{of-it, is-met, answer-keeps}
 use Rattle.site_lives.proofs.Lasting.{about-or-not, thing-adds, undone-things, done-things, same-heads}
 
 -- ===== Why a life is new

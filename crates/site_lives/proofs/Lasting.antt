@@ -1,18 +1,18 @@
 -- What lasts of a trail leads to the site at rest behind it.
-use Rattle.std.proofs.Common.{◌≡◌, ℕ, Bool, true, false, List, [], ◌∷◌, ◌++◌, length, Option, Some, None, IsTrue, IsFalse, inl, inr, refl, sym, ap, subst, ◌∙◌, bytes_eq, arith}
+use Rattle.std.proofs.Common.{◌≡◌, ℕ, false, List, [], ◌∷◌, ◌++◌, length, Option, Some, None, IsTrue, IsFalse, inl, inr, refl, sym, ap, subst, ◌∙◌, bytes_eq, arith}
 use Rattle.std.specs.Prelude.{option_to_list, option_map}
 use Rattle.std.proofs.lemmas.Bool.{both_ways, cases_Bool, cond-true, cond-false, false_from_ne_true, or_parts}
 use Rattle.std.proofs.lemmas.Slice.Eq.{bytes_eq-Decides}
-use Rattle.tardis_base.specs.Plain.{Event, Answers, no_memory}
+use Rattle.tardis_base.specs.Plain.{Event, no_memory}
 use Rattle.plain_site.specs.Site.{Site}
 use Rattle.plain_site.specs.Step.{site_machine}
-use Rattle.plain_site.specs.Rest.{Lasting, at_rest, lasting_of_event, with_lasting, replay, fits, all_fit}
+use Rattle.plain_site.specs.Rest.{Lasting, at_rest, lasting_of_event, replay, fits, all_fit}
 use Rattle.plain_site.proofs.RepliesMemory.{never-wants-memory}
 use Rattle.rest_laws.specs.Trails.{lasting_of_answers}
 use Rattle.rest_laws.proofs.Trails.{event-adds, undone-lasts, done-lasts}
 use Rattle.std.proofs.lemmas.Bool.{and_parts, and_from}
 use Rattle.site_lives.specs.declared.lives.NewLife.{NewLife}
-use Rattle.site_lives.specs.Lives.{is_of_lives, lives_answer}
+use Rattle.site_lives.specs.Lives.{is_of_lives}
 use Rattle.site_lives.specs.Acquainted.{Acquainted, about_lives, with_news, acquainted_machine}
 use Rattle.site_lives.specs.Laws.{others, replies_to_others}
 use Rattle.site_lives.specs.Things.{LastingThing, OfSite, OfLives, all_at_rest, thing_of_event, with_thing, fits_thing, replay_things, all_things_fit}

@@ -1,24 +1,22 @@
--- Of each number one site is met.
-use Rattle.std.proofs.Common.{◌≡◌, ℕ, ◌-◌, ◌≤◌, ◌<◌, ◌==◌, ◌&&◌, List, [], ◌∷◌, get_or, Option, Some, None, IsFalse, refl, sym, ap, subst, ◌∙◌, arith, nat_le, leb-true, if◌then◌else◌}
+-- Of each number one site is met; and where one isn't met, nothing changes.
+use Rattle.std.proofs.Common.{◌≡◌, ℕ, ◌-◌, ◌==◌, ◌&&◌, List, [], ◌∷◌, get_or, Option, Some, None, IsFalse, inl, inr, refl, sym, ap, subst, ◌∙◌, arith, nat_le, leb-true, eqb-true, if◌then◌else◌}
 use Rattle.std.specs.Prelude.{is_none}
 use Rattle.std.specs.Option.{option_map_or}
-use Rattle.std.proofs.lemmas.Bool.{and_parts, cond-true, eq-eqb}
+use Rattle.std.proofs.lemmas.Bool.{and_parts, cases_Bool, cond-true, cond-false, eq-eqb}
 use Rattle.std.proofs.lemmas.List.{get_or-set_same}
-use Rattle.tardis_base.specs.Plain.{Event, PlainMachine, Answers}
+use Rattle.tardis_base.specs.Plain.{PlainMachine}
 use Rattle.tardis_base.specs.Valid.{is_u16}
 use Rattle.wire_lives.specs.declared.introductions.Introduction.{Introduction}
 use Rattle.wire_lives.specs.Spellings.{is_life, is_placed}
 use Rattle.wire_lives.specs.Readings.{introduction_of}
 use Rattle.wire_lives.specs.Laws.{IntroductionsHaveOneSpelling}
 use Rattle.plain_site.specs.Site.{Site}
+use Rattle.site_lives.specs.declared.lives.NewLife.{NewLife}
 use Rattle.site_lives.specs.Lives.{Life, life_of, with_life, with_new, new_life, is_another, verdict, introduced, meet}
-use Rattle.site_lives.specs.Acquainted.{Acquainted, acquainted}
-use Rattle.site_lives.specs.Laws.{HasPlaces, Meets, OneLifeEach}
+use Rattle.site_lives.specs.Acquainted.{Acquainted, with_news, acquainted}
+use Rattle.site_lives.specs.Laws.{HasPlaces, Meets, RefusedMeetingsChangeNothing, OneLifeEach}
 use Rattle.site_lives.proofs.Stays.{IsMet, is-met, is-this, of-it}
 use Rattle.site_lives.proofs.Trails.{lives-stay}
-
-second : List ℕ → ℕ
-second bytes = get_or bytes 1 0
 
 module _ (m : PlainMachine Site) (one : IntroductionsHaveOneSpelling) where
   module _ (a : Acquainted) (n : ℕ) (fields : List ℕ) (i : Introduction) (meets : Meets m a n fields i) where
@@ -71,3 +69,23 @@ module _ (m : PlainMachine Site) (one : IntroductionsHaveOneSpelling) where
       let stays = lives-stay m a' b events replies i.number i.life trail (known-then a n first i meets places) in
       let there = ap (λ x. life_of b.lives x) (sym same) ∙ stays in
       is-this i.life j.life (subst (λ o. IsFalse (is_another o j.life)) there (met b k second j meets_again).same)
+
+-- ===== A meeting that is refused
+
+pub refused-meetings-change-nothing : (m : PlainMachine Site) → RefusedMeetingsChangeNothing m
+refused-meetings-change-nothing m a n fields other = go (introduction_of fields) refl
+  where
+    nothing : (o : Option NewLife) → o ≡ None → with_news o a ≡ a
+    nothing o e = ap (λ new. with_news new a) e
+
+    go : (o : Option Introduction) → introduction_of fields ≡ o →
+        with_news (option_map_or (introduced a.site.own a.site.limits.sites a.lives) (introduction_of fields) (4, None)).1 a ≡ a
+    go None is = nothing _ (ap (λ o. (option_map_or (introduced a.site.own a.site.limits.sites a.lives) o (4, None)).1) is)
+    go (Some i) is =
+        let met = ap (λ o. option_map_or (introduced a.site.own a.site.limits.sites a.lives) o (4, None)) is in
+        let v = verdict a.site.own a.site.limits.sites a.lives i in
+        let new = new_life a.lives i.number i.life in
+        elim (cases_Bool (v == 0)) [
+          | inl t ↦ absurd (other (ap (λ (x : ℕ × Option NewLife). 72 ∷ x.0 ∷ []) met ∙ ap (λ k. 72 ∷ k ∷ []) (eqb-true v 0 t)))
+          | inr f ↦ nothing _ (ap (λ (x : ℕ × Option NewLife). x.1) met ∙ cond-false (v == 0) new None f)
+        ]

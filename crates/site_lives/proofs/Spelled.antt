@@ -1,25 +1,21 @@
 -- What lasts is read as it is spelled, and taken back in one way.
-use Rattle.std.proofs.Common.{◌≡◌, ℕ, List, [], ◌∷◌, ◌++◌, Some, None, IsTrue, refl, sym, ap, ◌∙◌}
-use Rattle.std.specs.Prelude.{nat_le, ◌&&◌}
+use Rattle.std.proofs.Common.{◌≡◌, ℕ, List, [], ◌∷◌, ◌++◌, Some, IsTrue, refl, sym, ap, ◌∙◌}
+use Rattle.std.specs.Prelude.{nat_le}
 use Rattle.std.proofs.lemmas.Bool.{and_parts, and_from}
 use Rattle.tardis_base.specs.declared.records.Item.TheVariants.{State, Promise}
-use Rattle.tardis_base.specs.Valid.{is_u16, is_u32, are_bytes}
-use Rattle.wire_item.specs.Spellings.{u16_spelling, u32_spelling}
+use Rattle.tardis_base.specs.Valid.{is_u32, are_bytes}
+use Rattle.wire_item.specs.Spellings.{u32_spelling}
 use Rattle.wire_item.specs.Fronts.{only_if}
 use Rattle.wire_item.specs.Readings.{u32_front}
 use Rattle.wire_item.proofs.Fronts.{some-parts}
 use Rattle.wire_item.proofs.Ways.{Reads, reads-both, reads-made, reads-only_if, row-made, by_code-only, made-back}
 use Rattle.wire_item.proofs.Numbers.{reads-u16, reads-u32}
 use Rattle.wire_item.proofs.Things.{reads-record, reads-consent}
-use Rattle.wire_lives.specs.Spellings.{is_life}
 use Rattle.wire_lives.proofs.Laws.{reads-life}
 use Rattle.plain_site.specs.Rest.{News, Collection}
 use Rattle.plain_site.specs.RestSpellings.{is_count}
-use Rattle.site_lives.specs.declared.lives.NewLife.{NewLife}
-use Rattle.site_lives.specs.Acquainted.{Acquainted}
 use Rattle.site_lives.specs.Things.{LastingThing, OfSite, OfLives, life_spelling, thing_spelling, is_new_life, is_thing, life_front, thing_rows, thing_front}
 use Rattle.site_lives.specs.Things.{are_things, all_spellings, replay_things}
-use Rattle.site_lives.specs.Bytes.{TakesBack}
 use Rattle.site_lives.specs.RestLaws.{OneWayBack}
 
 reads-count : Reads is_count u32_spelling (only_if (nat_le 1) u32_front)

@@ -1,10 +1,10 @@
 -- Trails of a site that meets others.
-use Rattle.std.proofs.Common.{◌≡◌, ℕ, Bool, true, false, ◌||◌, not, List, [], ◌∷◌, filter, Option, Some, None, IsTrue, IsFalse, inl, inr, refl, sym, ap, subst, ◌∙◌}
+use Rattle.std.proofs.Common.{◌≡◌, ℕ, Bool, not, List, [], ◌∷◌, Some, IsTrue, IsFalse, inl, inr, sym, ap, subst, ◌∙◌}
 use Rattle.std.proofs.Common.{if◌then◌else◌}
-use Rattle.std.proofs.lemmas.Bool.{both_ways, cases_Bool, cond-true, cond-false, or_parts, or_left}
+use Rattle.std.proofs.lemmas.Bool.{cases_Bool, cond-true, cond-false, or_parts}
 use Rattle.tardis_base.specs.Plain.{Event, PlainMachine, Answers}
 use Rattle.plain_site.specs.Site.{Site}
-use Rattle.site_lives.specs.Lives.{Life, Lives, life_of, is_of_lives}
+use Rattle.site_lives.specs.Lives.{Life, life_of, is_of_lives}
 use Rattle.site_lives.specs.Acquainted.{Acquainted, about_lives, with_news, acquainted}
 use Rattle.site_lives.specs.Laws.{EachHasItsOwn, others, replies_to_others, SiteHasItsTrail, LivesStay}
 use Rattle.site_lives.proofs.Stays.{answer-keeps}

@@ -1,6 +1,6 @@
 -- A site and the lives that it knows, as a machine.
 use Rattle.std.specs.Prelude.{ℕ, ◌||◌, List, Option, if◌then◌else◌}
-use Rattle.tardis_base.specs.Plain.{Event, PlainMachine}
+use Rattle.tardis_base.specs.Plain.{PlainMachine}
 use Rattle.plain_site.specs.Site.{Site}
 use Rattle.plain_site.specs.Step.{site_machine}
 use Rattle.site_lives.specs.declared.lives.NewLife.{NewLife}

@@ -55,6 +55,12 @@ pub record Meets (m : PlainMachine Site) (a : Acquainted) (n : ℕ) (fields : Li
   pub introduced : introduction_of fields ≡ Some i
   pub met : (acquainted m).reply a (n, MEET ∷ fields) ≡ MEET ∷ MET ∷ []
 
+-- where the other site isn't met, nothing changes
+abbrev pub RefusedMeetingsChangeNothing : PlainMachine Site → Type 0
+RefusedMeetingsChangeNothing m =
+    (a : Acquainted) (n : ℕ) (fields : List ℕ) → ((acquainted m).reply a (n, MEET ∷ fields) ≡ MEET ∷ MET ∷ [] → ⊥) →
+    (acquainted m).step a (n, MEET ∷ fields) ≡ a
+
 -- of each number one site is met, however long the trail: no other life of that number is ever met
 abbrev pub OneLifeEach : PlainMachine Site → Type 0
 OneLifeEach m =

@@ -1,9 +1,12 @@
 -- Worked rows: what the first of two sites answers when it is to meet others.
-use Rattle.std.specs.Prelude.{◌≡◌, ℕ, List, [], ◌∷◌, map}
+use Rattle.std.specs.Prelude.{◌≡◌, ℕ, true, false, List, [], ◌∷◌, map}
+use Rattle.tardis_base.specs.Plain.{Event}
 use Rattle.plain_site.specs.Site.{opening}
 use Rattle.plain_site.specs.RowWords.{program_limits}
 use Rattle.plain_site.specs.RowByteWords.{hex, ByteLine, ◌sends◌=>◌}
 use Rattle.site_lives.specs.Acquainted.{Acquainted, unacquainted, acquainted_machine}
+use Rattle.site_lives.specs.Things.{OfLives, replay_things, all_things_fit}
+use Rattle.site_lives.specs.Bytes.{lasting_bytes}
 
 -- the replies to the requests of these lines, one after another
 abbrev pub replies : Acquainted → List ByteLine → List (List ℕ)
@@ -15,27 +18,54 @@ replies a (line ∷ lines) =
 abbrev pub MeetingsAreAnswered : Type 0
 MeetingsAreAnswered =
     let lines =
-        -- before its life began it meets nobody, and 15 bytes are no life
-        (0 sends hex "48 47 0002 0002 bbbbbbbbbbbbbbbbbbbbbbbbbbbbbbbb" => hex "48 05")
-        ∷ (0 sends hex "49 aaaaaaaaaaaaaaaaaaaaaaaaaaaaaa" => hex "49 05")
-        -- it begins once
-        ∷ (0 sends hex "49 aaaaaaaaaaaaaaaaaaaaaaaaaaaaaaaa" => hex "49 00")
-        ∷ (0 sends hex "49 aaaaaaaaaaaaaaaaaaaaaaaaaaaaaaab" => hex "49 01")
-        -- the second site is met, and met again, and met with no other life
-        ∷ (0 sends hex "48 47 0002 0002 bbbbbbbbbbbbbbbbbbbbbbbbbbbbbbbb" => hex "48 00")
-        ∷ (0 sends hex "48 47 0002 0002 bbbbbbbbbbbbbbbbbbbbbbbbbbbbbbbb" => hex "48 00")
-        ∷ (0 sends hex "48 47 0002 0002 cccccccccccccccccccccccccccccccc" => hex "48 01")
-        -- its own number, be it with its own life; one of three sites
-        ∷ (0 sends hex "48 47 0001 0002 aaaaaaaaaaaaaaaaaaaaaaaaaaaaaaaa" => hex "48 02")
-        ∷ (0 sends hex "48 47 0002 0003 bbbbbbbbbbbbbbbbbbbbbbbbbbbbbbbb" => hex "48 03")
-        -- the third of two sites, the site 0, another code, and bytes left over
-        ∷ (0 sends hex "48 47 0003 0002 bbbbbbbbbbbbbbbbbbbbbbbbbbbbbbbb" => hex "48 04")
-        ∷ (0 sends hex "48 47 0000 0002 bbbbbbbbbbbbbbbbbbbbbbbbbbbbbbbb" => hex "48 04")
-        ∷ (0 sends hex "48 46 0002 0002 bbbbbbbbbbbbbbbbbbbbbbbbbbbbbbbb" => hex "48 04")
-        ∷ (0 sends hex "48 47 0002 0002 bbbbbbbbbbbbbbbbbbbbbbbbbbbbbbbb 00" => hex "48 04")
-        ∷ (0 sends hex "48" => hex "48 04")
-        -- all others are the site's to answer: an Open, and the question who it is, which is none to it
-        ∷ (1 sends hex "01 00" => hex "01 0000 00000000")
-        ∷ (0 sends hex "47" => hex "15 01")
-        ∷ [] in
+    -- before its life began it meets nobody, and 15 bytes are no life
+    (0 sends hex "48 47 0002 0002 bbbbbbbbbbbbbbbbbbbbbbbbbbbbbbbb" => hex "48 05")
+    ∷ (0 sends hex "49 aaaaaaaaaaaaaaaaaaaaaaaaaaaaaa" => hex "49 05")
+    -- it begins once
+    ∷ (0 sends hex "49 aaaaaaaaaaaaaaaaaaaaaaaaaaaaaaaa" => hex "49 00")
+    ∷ (0 sends hex "49 aaaaaaaaaaaaaaaaaaaaaaaaaaaaaaab" => hex "49 01")
+    -- the second site is met, and met again, and met with no other life
+    ∷ (0 sends hex "48 47 0002 0002 bbbbbbbbbbbbbbbbbbbbbbbbbbbbbbbb" => hex "48 00")
+    ∷ (0 sends hex "48 47 0002 0002 bbbbbbbbbbbbbbbbbbbbbbbbbbbbbbbb" => hex "48 00")
+    ∷ (0 sends hex "48 47 0002 0002 cccccccccccccccccccccccccccccccc" => hex "48 01")
+    -- its own number, be it with its own life; one of three sites
+    ∷ (0 sends hex "48 47 0001 0002 aaaaaaaaaaaaaaaaaaaaaaaaaaaaaaaa" => hex "48 02")
+    ∷ (0 sends hex "48 47 0002 0003 bbbbbbbbbbbbbbbbbbbbbbbbbbbbbbbb" => hex "48 03")
+    -- the third of two sites, the site 0, another code, and bytes left over
+    ∷ (0 sends hex "48 47 0003 0002 bbbbbbbbbbbbbbbbbbbbbbbbbbbbbbbb" => hex "48 04")
+    ∷ (0 sends hex "48 47 0000 0002 bbbbbbbbbbbbbbbbbbbbbbbbbbbbbbbb" => hex "48 04")
+    ∷ (0 sends hex "48 46 0002 0002 bbbbbbbbbbbbbbbbbbbbbbbbbbbbbbbb" => hex "48 04")
+    ∷ (0 sends hex "48 47 0002 0002 bbbbbbbbbbbbbbbbbbbbbbbbbbbbbbbb 00" => hex "48 04")
+    ∷ (0 sends hex "48" => hex "48 04")
+    -- all others are the site's to answer: an Open, and the question who it is, which is none to it
+    ∷ (1 sends hex "01 00" => hex "01 0000 00000000")
+    ∷ (0 sends hex "47" => hex "15 01")
+    ∷ [] in
     replies (unacquainted (opening (program_limits 2) 1)) lines ≡ map (λ line. line.reply) lines
+
+-- What lasts of such meetings, and what a site knows that started again: of a life that is new its number and its 16 bytes last, of all
+-- others nothing; and taken back, oldest first, they make a site that meets no other life of the second one.
+abbrev pub LivesOutlastTheSite : Type 0
+LivesOutlastTheSite =
+    let site = unacquainted (opening (program_limits 2) 1) in
+    let begins : Event = (0, hex "49 aaaaaaaaaaaaaaaaaaaaaaaaaaaaaaaa") in
+    let meets : Event = (0, hex "48 47 0002 0002 bbbbbbbbbbbbbbbbbbbbbbbbbbbbbbbb") in
+    let meets_another : Event = (0, hex "48 47 0002 0002 cccccccccccccccccccccccccccccccc") in
+    let born = acquainted_machine.step site begins in
+    let met = acquainted_machine.step born meets in
+    let own = OfLives (record { number = 1; life = hex "aaaaaaaaaaaaaaaaaaaaaaaaaaaaaaaa" }) in
+    let second = OfLives (record { number = 2; life = hex "bbbbbbbbbbbbbbbbbbbbbbbbbbbbbbbb" }) in
+    let again = replay_things (own ∷ second ∷ []) site in
+    (lasting_bytes site meets ≡ [])
+    × (lasting_bytes site begins ≡ hex "04 0001 aaaaaaaaaaaaaaaaaaaaaaaaaaaaaaaa")
+    × (lasting_bytes born begins ≡ [])
+    × (lasting_bytes born meets ≡ hex "04 0002 bbbbbbbbbbbbbbbbbbbbbbbbbbbbbbbb")
+    × (lasting_bytes met meets ≡ [])
+    × (lasting_bytes met meets_another ≡ [])
+    × (all_things_fit site (own ∷ second ∷ []) ≡ true)
+    × (acquainted_machine.reply again meets ≡ hex "48 00")
+    × (acquainted_machine.reply again meets_another ≡ hex "48 01")
+    -- the own life comes first, and each only once; a third of two sites has none
+    × (all_things_fit site (second ∷ []) ≡ false)
+    × (all_things_fit site (own ∷ own ∷ []) ≡ false)
+    × (all_things_fit site (own ∷ OfLives (record { number = 3; life = hex "bbbbbbbbbbbbbbbbbbbbbbbbbbbbbbbb" }) ∷ []) ≡ false)

@@ -2,7 +2,7 @@
 
 ghost use Rattle.tardis_base.specs.Plain.{PlainMachine};
 ghost use Rattle.plain_site.specs.Site.{Site};
-ghost use Rattle.site_lives.specs.Laws.{EachHasItsOwn, SiteHasItsTrail, LivesStay, OneLifeEach};
+ghost use Rattle.site_lives.specs.Laws.{EachHasItsOwn, SiteHasItsTrail, LivesStay, RefusedMeetingsChangeNothing, OneLifeEach};
 
 use wire_lives::introductions_have_one_spelling;
 
@@ -13,9 +13,10 @@ pub fn meetings_leave_the_site()
     ensures trail { (m : PlainMachine Site) → SiteHasItsTrail m }
 {}
 
-/// A life once known stays. So however long a site lives, of each number it meets one site: none that has another life.
+/// A life once known stays, and where another site isn't met nothing changes. So however long a site lives, of each number it meets one site: none that has another life.
 pub fn one_life_is_met_of_each_site()
     ensures stay { (m : PlainMachine Site) → LivesStay m }
+    ensures refused { (m : PlainMachine Site) → RefusedMeetingsChangeNothing m }
     ensures one { (m : PlainMachine Site) → OneLifeEach m }
 {
     introductions_have_one_spelling();

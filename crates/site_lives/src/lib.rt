@@ -11,4 +11,4 @@ mod rows;
 pub use lasting_laws::{lives_last_beside_the_site, what_lasts_of_the_site_is_its_own};
 pub use laws::{meetings_leave_the_site, one_life_is_met_of_each_site};
 pub use lives::{Lives, NewLife, is_of_lives};
-pub use rows::meetings_are_answered;
+pub use rows::{lives_outlast_the_site, meetings_are_answered};

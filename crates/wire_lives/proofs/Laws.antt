@@ -1,11 +1,11 @@
 -- An introduction is read as it is spelled.
-use Rattle.std.proofs.Common.{◌≡◌, ℕ, Bool, ◌&&◌, ◌==◌, IsTrue, List, [], ◌∷◌, ◌++◌, length, Some, refl, sym, ap, subst, ◌∙◌, arith, length-append}
+use Rattle.std.proofs.Common.{◌≡◌, ℕ, ◌&&◌, ◌==◌, IsTrue, List, [], ◌∷◌, ◌++◌, length, Some, refl, ap, subst, arith, length-append}
 use Rattle.std.proofs.lemmas.Bool.{and_parts, and_from, eqb-true, eq-eqb}
 use Rattle.tardis_base.specs.Valid.{is_u16, are_bytes}
 use Rattle.wire_item.specs.Spellings.{u16_spelling}
 use Rattle.wire_item.specs.Fronts.{bytes_front}
 use Rattle.wire_item.proofs.Fronts.{bytes_front-read, bytes_front-source}
-use Rattle.wire_item.proofs.Ways.{Reads, reads-both, reads-made, reads-only_if, row-made, by_code-only, made-back}
+use Rattle.wire_item.proofs.Ways.{Reads, reads-both, reads-made, reads-only_if, by_code-only}
 use Rattle.wire_item.proofs.Numbers.{reads-u16}
 use Rattle.wire_item.proofs.Laws.{one_spelling}
 use Rattle.wire_lives.specs.declared.introductions.Introduction.{Introduction}

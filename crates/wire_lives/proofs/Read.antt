@@ -1,8 +1,8 @@
 -- What stands at the front of bytes, part by part.
-use Rattle.std.proofs.Common.{◌≡◌, ℕ, Bool, true, false, ◌==◌, IsTrue, IsFalse, List, [], ◌∷◌, length, Some, None, refl, sym, ap, ◌∙◌, ne_eqb, eqb-true, arith, if◌then◌else◌}
+use Rattle.std.proofs.Common.{◌≡◌, ℕ, Bool, ◌==◌, IsTrue, IsFalse, List, [], ◌∷◌, length, Some, None, refl, sym, ap, ◌∙◌, ne_eqb, eqb-true, arith, if◌then◌else◌}
 use Rattle.std.specs.Prelude.{option_and_then}
 use Rattle.std.proofs.lemmas.Bool.{both_ways}
-use Rattle.wire_item.specs.Fronts.{Front, bytes_front, made, only_if, both, alone, whole, front_of_code}
+use Rattle.wire_item.specs.Fronts.{Front, bytes_front, made, both, alone, front_of_code}
 use Rattle.wire_item.specs.Readings.{u8_front, u16_front}
 use Rattle.wire_item.proofs.Fronts.{made-read, only_if-read}
 use Rattle.wire_item.proofs.Takings.{made-none, only_if-none, only_if-fails, after-none, after-then_none, after-then}

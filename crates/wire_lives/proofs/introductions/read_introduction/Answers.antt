@@ -1,4 +1,4 @@
-use Rattle.std.proofs.Common.{sym, ap, refl, ◌∙◌}
+use Rattle.std.proofs.Common.{sym, ap, ◌∙◌}
 use Rattle.wire_item.specs.Readings.{u8_front}
 use Rattle.wire_item.proofs.Takings.{taken, untaken}
 use Rattle.wire_lives.specs.Readings.{behind_code, introduction_of}
