@@ -1,7 +1,7 @@
 #!/usr/bin/env python3
 """Tests servers that fetch from each other (`tardisd --peer`), over real sockets.
 
-usage: tools/test_peers.py [--minutes N] [--seed S] [TARDISD]
+usage: tools/test_peers.py [--minutes N [--clients N] [--seed S]] [TARDISD]
 
 The program is ./tardisd of this repository, unless another is named. First it is seen, in about a minute, that
 
@@ -12,7 +12,7 @@ The program is ./tardisd of this repository, unless another is named. First it i
 - a peer that takes a call and never answers is given up, and told, and clients are served meanwhile;
 - a client that asks nothing for as long as --idle says is ended, and one that asks isn't, however long it lasts.
 
-With --minutes, three sites with files and 20 clients run for so long, while links between the sites are cut at random, and sites are
+With --minutes, three sites with files and 20 clients (or as many as are named) run for so long, while links between the sites are cut at random, and sites are
 killed at random and started again. Then there is peace, and it is seen that all three know the same states and read the same, that
 nothing which a client was told is lost, and that few states are kept. It prints how long peace took to make them equal.
 
@@ -163,25 +163,31 @@ def test_two_that_fetch(folder, addresses):
     say("two servers fetch from each other over %s" % one_at.partition(":")[0])
 
 
+def is_reached(server, address):
+    """Whether the last that it told of the peer is that it is reached."""
+    return server.told(address) and server.told(address)[-1] in ("reached", "reached again")
+
+
 def test_killed_with_a_file(folder, path):
     one_at, other_at = path("k1"), path("k2")
     one = Server(one_at, "--sites", "2", "--site", "1", "--peer", other_at, "--every", "1")
     other = Server(other_at, "--sites", "2", "--site", "2", "--peer", one_at, "--every", "1", "--file", os.path.join(folder, "kept"))
     with running(one, other):
-        until(lambda: one.told(other_at) == ["reached"] and other.told(one_at) == ["reached"], of="a line")
+        until(lambda: is_reached(one, other_at) and is_reached(other, one_at), of="a line")
+        before = len(one.told(other_at))
         for number in range(1, 4):
             assert other.commit(y=b"%d" % number) == (2, number)
             other.kill()
-            until(lambda: len(one.told(other_at)) == 2 * number, of="a line")
+            until(lambda: not is_reached(one, other_at), of="a line")
             one.commit(x=b"%d" % number)
             other.start()
-            until(lambda: len(one.told(other_at)) == 2 * number + 1, of="a line")
+            until(lambda: is_reached(one, other_at), of="a line")
             until(lambda: are_equal(one, other), of="what was committed meanwhile")
         # (it may be killed while it is asked, or between two exchanges)
-        lost = [line for line in one.told(other_at) if line.startswith("lost: ")]
-        whys = {line[len("lost: "):-len(AGAIN)] for line in lost if line.endswith(AGAIN)}
-        assert len(lost) == 3 and whys <= {"nobody listens there", "it ended the connection before its answer was whole"}, lost
-        assert [line for line in one.told(other_at) if line not in lost] == ["reached"] + ["reached again"] * 3, one.told(other_at)
+        told = one.told(other_at)[before:]
+        whys = {line[len("lost: "):-len(AGAIN)] for line in told[::2] if line.startswith("lost: ") and line.endswith(AGAIN)}
+        assert whys and whys <= {"nobody listens there", "it ended the connection before its answer was whole"}, told
+        assert len(told) == 6 and told[1::2] == ["reached again"] * 3, told
         assert one.counts() == [3, 3]
     say("a site that is killed and started again on its file goes on")
 
@@ -220,8 +226,8 @@ def test_other_lives(folder, path):
 def test_life_is_told(folder, path):
     """A site that goes away between two exchanges, and comes back as another life at once: the first failure says so."""
     one_at, other_at = path("m1"), path("m2")
-    one = Server(one_at, "--sites", "2", "--site", "1", "--peer", other_at, "--every", "3")
     other = Server(other_at, "--sites", "2", "--site", "2")
+    one = Server(one_at, "--sites", "2", "--site", "1", "--peer", other_at, "--every", "3")
     with running(one, other):
         until(lambda: one.told(other_at) == ["reached"], of="a line")
         other.kill()
@@ -235,18 +241,24 @@ def test_who_is_not_met(folder, path):
     clients, nobody = path("n4"), path("n5")
     peers = [Server(own, "--sites", "2", "--site", "1"), Server(others, "--sites", "3", "--site", "2"),
              Server(path("n6"), "--sites", "2", "--site", "2", "--clients", clients)]
-    with running(*peers), listener(silent, lambda made: made.sendall(b"\x00\x00\x00\x01\x07")):
+    with running(*peers), listener(silent, refuse):
         words = [word for at in (own, others, silent, clients, nobody) for word in ("--peer", at)]
         one = Server(path("n7"), "--sites", "2", "--site", "1", "--every", "1", *words)
         with running(one):
             for at, why in ((own, "it has the number of this site"), (others, "it is one of another number of sites"),
-                            (silent, "it sent what it wasn't asked for"), (clients, "it doesn't tell what it knows"),
+                            (silent, "it doesn't introduce itself"), (clients, "it doesn't tell what it knows"),
                             (nobody, "nobody listens there")):
                 until(lambda: any(why in line for line in one.told(at)), of="%r of %r" % (why, one.told(at)))
             time.sleep(4)
             assert len(one.lines) == 6 and all(line.endswith(AGAIN) for line in one.lines[1:]), one.lines
             assert one.counts() == [0, 0]
     say("whom a site doesn't meet is told once each")
+
+
+def refuse(made):
+    """Answers a question as an older program does."""
+    made.recv(100)
+    made.sendall(b"\x00\x00\x00\x03\x15\x1b\x47")
 
 
 @contextlib.contextmanager
@@ -272,20 +284,6 @@ def listener(address, then):
             door.shutdown(socket.SHUT_RDWR)
             for made in held:
                 made.close()
-
-
-def test_no_introduction(folder, path):
-    """Somebody who reads a question and answers it with a refusal, as an older program does."""
-    def refuse(made):
-        made.recv(100)
-        made.sendall(b"\x00\x00\x00\x03\x15\x1b\x47")
-
-    silent = path("i1")
-    with listener(silent, refuse):
-        one = Server(path("i2"), "--sites", "2", "--site", "1", "--every", "1", "--peer", silent)
-        with running(one):
-            is_told_once(one, silent, "it doesn't introduce itself")
-    say("a peer that doesn't introduce itself is told once")
 
 
 def test_never_answers(folder, path):
@@ -373,7 +371,6 @@ def test_rows(folder):
     test_life_is_told(folder, path)
     test_other_lives(folder, path)
     test_who_is_not_met(folder, path)
-    test_no_introduction(folder, path)
     test_idle(folder, path)
     slow.join()
     if FAULTS:
@@ -540,7 +537,7 @@ class Run:
         for server in self.sites:
             with server.connect() as site:
                 kept = 0
-                for state in site.history().states.values():
+                for state in site.history().states:
                     if state.id in self.told:
                         kept += 1
                         writes = {write.key: write.value for write in state.writes}
@@ -567,16 +564,16 @@ class Run:
                 until(lambda: are_equal(*self.sites), 60, "what was committed last")
 
 
-def test_three_sites(folder, minutes, seed):
+def test_three_sites(folder, minutes, clients, seed):
     run = Run(folder, seed)
     try:
-        threads = [threading.Thread(target=quietly, args=(run.client, number), daemon=True) for number in range(CLIENTS)]
+        threads = [threading.Thread(target=quietly, args=(run.client, number), daemon=True) for number in range(clients)]
         for thread in threads:
             thread.start()
         run.disturb(60 * minutes)
         run.end_of_war()
         for thread in threads:
-            thread.join(PATIENCE)
+            thread.join(4 * PATIENCE)
             assert not thread.is_alive(), "a client hangs"
         if FAULTS:
             raise FAULTS[0]
@@ -608,6 +605,7 @@ def main():
     global TARDISD
     words = argparse.ArgumentParser(usage=__doc__.split("\n\n")[1].partition(": ")[2])
     words.add_argument("--minutes", type=float, default=0)
+    words.add_argument("--clients", type=int, default=CLIENTS)
     words.add_argument("--seed", type=int, default=1)
     words.add_argument("program", nargs="?", default=TARDISD)
     words = words.parse_args()
@@ -618,7 +616,7 @@ def main():
     folder = tempfile.mkdtemp()
     try:
         if words.minutes:
-            test_three_sites(folder, words.minutes, words.seed)
+            test_three_sites(folder, words.minutes, words.clients, words.seed)
         else:
             test_rows(folder)
     finally:

@@ -1,6 +1,6 @@
 -- Exchanges, turn by turn.
 use Rattle.std.proofs.Common.{◌≡◌, ◌∙◌, ℕ, Bool, true, false, List, [], ◌∷◌, ◌++◌, map, take, drop, ◌⊎◌, inl, inr, refl, ap, sym, subst, append_assoc}
-use Rattle.std.specs.Prelude.{◌||◌, ◌==◌, if◌then◌else◌}
+use Rattle.std.specs.Prelude.{◌||◌, if◌then◌else◌}
 use Rattle.std.proofs.lemmas.List.{append-nil, map-append, take-append-drop}
 use Rattle.tardis_base.specs.declared.records.Item.{Item}
 use Rattle.frame_cut.specs.Frames.{frame}
@@ -18,9 +18,8 @@ use Rattle.site_peers.specs.declared.peers.Peer.{Peer}
 use Rattle.site_peers.specs.Questions.{QuestionState}
 use Rattle.site_peers.specs.Asking.{stat, delivery, AreStatistics, any_applied, meeting, verdict}
 use Rattle.site_peers.specs.Hearing.{StartsWith, IsHeard}
-use Rattle.site_peers.specs.Moves.{News, Time, Through, Over, Came, Sent, most_a_turn, with_left, Rests, Becomes, Breaks, Asks, MayAsk, GoesBy, Delivers, HearsOf, Uses, GreetsOf, Learns, WritesNone, Moves}
+use Rattle.site_peers.specs.Moves.{is_told, News, Time, Through, Over, Came, Sent, most_a_turn, with_left, Rests, Becomes, Breaks, Asks, MayAsk, GoesBy, Delivers, HearsOf, Uses, GreetsOf, Learns, WritesNone, Moves}
 use Rattle.site_peers.specs.Moves.{OnTime, OnThrough, OnOver, OnCame, OnBytes, OnSent}
-use Rattle.site_peers.specs.Times.{first_pause}
 use Rattle.site_peers.specs.Runs.{PeerTurn, Went, Exchange, wrote_in, came_in, is_failure, is_call, more_of, begun_by, told_of, begins, within, last_more, exchanges, IsQuestion, IsAnswered, IsOver, AreOver, IsAsking, IsDelivered, Fit}
 
 -- whether an exchange goes on after a turn more, and the exchanges then
@@ -208,7 +207,7 @@ module _ (p : Peer) (now : ℕ) (bodies replies : List (List ℕ)) (deed : Deed)
 
   broke : (why : Failure) (on : Bool) (es : List Exchange) → Breaks p now bodies replies deed q why → AreOver (later t on es) → Stays on es
   broke why on es b over =
-      settled on es (Away now p.pause) (Fail why (p.pause == first_pause)) b.none.0 b.failed.deed_is refl (ap (λ (x : Peer). x.moment) b.failed.next) over
+      settled on es (Away now p.pause) (Fail why (is_told p.last why)) b.none.0 b.failed.deed_is refl (ap (λ (x : Peer). x.moment) b.failed.next) over
 
   -- the peer is called
   called : (on : Bool) (es : List Exchange) → AreOver es → Becomes p now bodies replies deed q Call (Calling now) → Stays on es
@@ -235,7 +234,7 @@ module _ (p : Peer) (now : ℕ) (bodies replies : List (List ℕ)) (deed : Deed)
         )
         | inr none ↦ subst (λ m. Fits m true (begun_by t ∷ es)) (sym (ap (λ (x : Peer). x.moment) none.failed.next)) (
           inl (record {
-            failed = failure deed NoCounts (p.pause == first_pause) none.failed.deed_is;
+            failed = failure deed NoCounts (is_told p.last NoCounts) none.failed.deed_is;
             wrote = refl;
             asked = refl;
           }),
@@ -316,7 +315,7 @@ module _ (p : Peer) (now : ℕ) (bodies replies : List (List ℕ)) (deed : Deed)
   on_time (Asked since question) false es is w c fit m = absurd fit
   on_time (Asked since question) true [] is w c fit m = absurd fit
   on_time (Asked since question) true (e ∷ es) is w c fit (inl m) =
-      broke Late true (e ∷ es) m.1 (asking_failed t e question Late (p.pause == first_pause) m.1.none.0 w m.1.failed.deed_is fit.0, fit.1)
+      broke Late true (e ∷ es) m.1 (asking_failed t e question Late (is_told p.last Late) m.1.none.0 w m.1.failed.deed_is fit.0, fit.1)
   on_time (Asked since question) true (e ∷ es) is w c fit (inr m) =
       rested (Asked since question) true (e ∷ es) is m.1 (asking_same t e question m.1.none.0 w c fit.0, fit.1)
   on_time (Delivering items connected full useful) false es is w c fit m = absurd fit
@@ -370,7 +369,7 @@ module _ (p : Peer) (now : ℕ) (bodies replies : List (List ℕ)) (deed : Deed)
   on_over (Asked since question) false es is w c fit m = absurd fit
   on_over (Asked since question) true [] is w c fit m = absurd fit
   on_over (Asked since question) true (e ∷ es) is w c fit m =
-      broke Cut true (e ∷ es) m (asking_failed t e question Cut (p.pause == first_pause) m.none.0 w m.failed.deed_is fit.0, fit.1)
+      broke Cut true (e ∷ es) m (asking_failed t e question Cut (is_told p.last Cut) m.none.0 w m.failed.deed_is fit.0, fit.1)
   on_over (Delivering items true full useful) false es is w c fit m = absurd fit
   on_over (Delivering items true full useful) true [] is w c fit m = absurd fit
   on_over (Delivering items true full useful) true (e ∷ es) is w c fit m =
@@ -417,14 +416,14 @@ module _ (p : Peer) (now : ℕ) (bodies replies : List (List ℕ)) (deed : Deed)
         over,
       )
   on_heard since came question e es w all sent a over (Other why) heard m =
-      broke why true (e ∷ es) m (asking_failed t e question why (p.pause == first_pause) m.none.0 w m.failed.deed_is a, over)
+      broke why true (e ∷ es) m (asking_failed t e question why (is_told p.last why) m.none.0 w m.failed.deed_is a, over)
 
   on_question : (since : ℕ) (left came : List ℕ) (question : QuestionState) (e : Exchange) (es : List Exchange) → wrote_in news ≡ [] →
       came ≡ question.came ++ came_in news → question.left ≡ left → IsAsking e question → AreOver es → HearsOf p now bodies replies deed q since left came →
       Stays true (e ∷ es)
   on_question since [] came question e es w all sent a over m = on_heard since came question e es w all sent a over m.heard m.is m.uses
   on_question since (byte ∷ left) came question e es w all sent a over m =
-      broke Unasked true (e ∷ es) m (asking_failed t e question Unasked (p.pause == first_pause) m.none.0 w m.failed.deed_is a, over)
+      broke Unasked true (e ∷ es) m (asking_failed t e question Unasked (is_told p.last Unasked) m.none.0 w m.failed.deed_is a, over)
 
   -- bytes came
   on_bytes : (bytes : List ℕ) (moment : Moment) (on : Bool) (es : List Exchange) → came_in news ≡ bytes → p.moment ≡ moment → wrote_in news ≡ [] →
@@ -444,7 +443,7 @@ module _ (p : Peer) (now : ℕ) (bodies replies : List (List ℕ)) (deed : Deed)
   on_bytes bytes (Delivering items true full useful) false es c is w fit m = absurd fit
   on_bytes bytes (Delivering items true full useful) true [] c is w fit m = absurd fit
   on_bytes bytes (Delivering items true full useful) true (e ∷ es) c is w fit m =
-      broke Unasked true (e ∷ es) m (delivered_failed t e items Unasked (p.pause == first_pause) m.none.0 w m.failed.deed_is fit.0, fit.1)
+      broke Unasked true (e ∷ es) m (delivered_failed t e items Unasked (is_told p.last Unasked) m.none.0 w m.failed.deed_is fit.0, fit.1)
   on_bytes bytes (Delivering items false full useful) false es c is w fit m = absurd fit
   on_bytes bytes (Delivering items false full useful) true [] c is w fit m = absurd fit
   on_bytes bytes (Delivering items false full useful) true (e ∷ es) c is w fit m =

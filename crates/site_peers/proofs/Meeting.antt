@@ -21,8 +21,7 @@ use Rattle.site_peers.specs.Questions.{QuestionState}
 use Rattle.site_peers.specs.Asking.{greeting, meeting, met, verdict}
 use Rattle.site_peers.specs.Hearing.{StartsWith}
 use Rattle.site_peers.specs.Introductions.{IsIntroduced}
-use Rattle.site_peers.specs.Times.{first_pause}
-use Rattle.site_peers.specs.Moves.{News, Time, Through, Over, Came, Sent, with_left, is_called, HasFailed, Rests, Becomes, Breaks, Asks, MayAsk, GoesBy, HearsOf, Uses, GreetsOf, Learns, WritesNone, Moves}
+use Rattle.site_peers.specs.Moves.{is_told, News, Time, Through, Over, Came, Sent, with_left, is_called, HasFailed, Rests, Becomes, Breaks, Asks, MayAsk, GoesBy, HearsOf, Uses, GreetsOf, Learns, WritesNone, Moves}
 use Rattle.site_peers.specs.Moves.{OnTime, OnThrough, OnOver, OnCame, OnBytes, OnSent}
 use Rattle.site_peers.specs.Runs.{PeerTurn, Went, wrote_in, came_in, is_call}
 use Rattle.site_peers.specs.Connections.{since_call, is_through, came_through, came_since, wrote_since, asked_since, IsMet, IsNotAsked}
@@ -163,7 +162,7 @@ module _ (p : Peer) (now : ℕ) (bodies replies : List (List ℕ)) (deed : Deed)
 
   failed_now : (why : Failure) (turns : List PeerTurn) → HasFailed p now deed q why → IsMet (t ∷ turns) ⊎ IsNotAsked (t ∷ turns) → Stays turns
   failed_now why turns f stands =
-      settled turns (Away now p.pause) (Fail why (p.pause == first_pause)) f.deed_is refl (ap (λ (x : Peer). x.moment) f.next) stands
+      settled turns (Away now p.pause) (Fail why (is_told p.last why)) f.deed_is refl (ap (λ (x : Peer). x.moment) f.next) stands
 
   called : (turns : List PeerTurn) → Becomes p now bodies replies deed q Call (Calling now) → Stays turns
   called turns b =

@@ -15,7 +15,7 @@ use Rattle.site_peers.specs.declared.deeds.Failure.TheVariants.{NotABatch, NotMe
 use Rattle.site_peers.specs.declared.moments.Moment.TheVariants.{Away, Calling, Greeting, Greeted, Asked, Delivering}
 use Rattle.site_peers.specs.Asking.{stat, items_of, AreStatistics}
 use Rattle.site_peers.proofs.Telling.{first_byte}
-use Rattle.site_peers.specs.Rows.{batch, introduction, statistics, question, hello, applied, peer, ExchangeIsMade, ExchangeIsSeen, PeerIsMet, NotMetIsTold, GreetingLateIsTold, LongIntroductionIsTold}
+use Rattle.site_peers.specs.Rows.{batch, introduction, statistics, question, hello, applied, peer, ExchangeIsMade, ExchangeIsSeen, PeerIsMet, NotMetIsTold, NotMetIsToldBehind, GreetingLateIsTold, LongIntroductionIsTold}
 use Rattle.site_peers.specs.Rows.{NoBatchIsTold, WaitsAWhile, LateIsTold, LateAgainIsNotTold, FullGoesOnAtOnce, FullOfNoUseWaits}
 
 are_statistics : AreStatistics statistics (record { count = 3; floor = root; number = 0 } ∷ record { count = 0; floor = root; number = 0 } ∷ [])
@@ -107,6 +107,16 @@ peer_is_met = inr (inr (inr (inl (record {
 
 pub not_met_is_told : NotMetIsTold
 not_met_is_told = record {
+  reply = 72 ∷ 1 ∷ [];
+  more = [];
+  told = [];
+  asked = refl;
+  replied = refl;
+  goes = inr (λ is. omega (arith, is), record { none = (refl, refl); failed = record { deed_is = refl; next = refl } });
+}
+
+pub not_met_is_told_behind : NotMetIsToldBehind
+not_met_is_told_behind = record {
   reply = 72 ∷ 1 ∷ [];
   more = [];
   told = [];

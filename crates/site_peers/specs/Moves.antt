@@ -1,12 +1,12 @@
 -- What a peer does of what the edge tells.
-use Rattle.std.specs.Prelude.{◌≡◌, ◌≢◌, ℕ, ◌-◌, ◌<◌, ◌≤◌, ◌==◌, Bool, true, false, ◌&&◌, ◌||◌, List, [], ◌∷◌, ◌++◌, map, take, drop, ◌⊎◌, if◌then◌else◌}
+use Rattle.std.specs.Prelude.{◌≡◌, ◌≢◌, ℕ, ◌+◌, ◌-◌, ◌<◌, ◌≤◌, ◌==◌, Bool, true, false, ◌&&◌, ◌||◌, not, Option, Some, None, List, [], ◌∷◌, ◌++◌, map, take, drop, ◌⊎◌, if◌then◌else◌}
 use Rattle.tardis_base.specs.declared.records.Item.{Item}
 use Rattle.tardis_base.specs.declared.replies.SiteLine.{SiteLine}
 use Rattle.wire_lives.specs.declared.life_codes.TheConstants.{MET}
 use Rattle.site_peers.specs.declared.deeds.Deed.{Deed}
 use Rattle.site_peers.specs.declared.deeds.Deed.TheVariants.{Stay, Call, Close, Fail}
 use Rattle.site_peers.specs.declared.deeds.Failure.{Failure}
-use Rattle.site_peers.specs.declared.deeds.Failure.TheVariants.{NotReached, Late, Cut, NotMet, Unasked, NoCounts, NoMemory}
+use Rattle.site_peers.specs.declared.deeds.Failure.TheVariants.{NotReached, Late, Cut, LongFrame, NotMet, NotABatch, Unasked, NoCounts, NoMemory}
 use Rattle.site_peers.specs.declared.hearing.Heard.{Heard}
 use Rattle.site_peers.specs.declared.hearing.Heard.TheVariants.{More, Answer, Other}
 use Rattle.site_peers.specs.declared.introductions.Introduced.{Introduced}
@@ -36,15 +36,15 @@ most_a_turn = ITEMS_A_TURN
 
 -- a peer at first: it is called at once
 abbrev pub fresh : ℕ → Peer
-fresh every = record { every = every; pause = first_pause; moment = Away 0 0 }
+fresh every = record { every = every; pause = first_pause; last = None; moment = Away 0 0 }
 
 -- the peer, at another moment
 abbrev pub at : Peer → Moment → Peer
-at p moment = record { every = p.every; pause = p.pause; moment = moment }
+at p moment = record { every = p.every; pause = p.pause; last = p.last; moment = moment }
 
 -- the peer behind an exchange that failed: it is left alone for its pause, and the next pause is longer
-abbrev pub failed : Peer → (now : ℕ) → Peer
-failed p now = record { every = p.every; pause = longer p.pause; moment = Away now p.pause }
+abbrev pub failed : Peer → (now : ℕ) → Failure → Peer
+failed p now why = record { every = p.every; pause = longer p.pause; last = Some why; moment = Away now p.pause }
 
 -- a peer whose exchange is over, with its connection or without
 abbrev pub alone : (connected : Bool) → (now wait : ℕ) → Moment
@@ -55,7 +55,7 @@ alone false now wait = Away now wait
 -- at once where the batch was full and of some use, and else as often as exchanges are made.
 abbrev pub with_left : Peer → (now : ℕ) → List Item → (connected full useful : Bool) → Peer
 with_left p now [] connected full useful =
-    record { every = p.every; pause = first_pause; moment = alone connected now (if full && useful then 0 else p.every) }
+    record { every = p.every; pause = first_pause; last = None; moment = alone connected now (if full && useful then 0 else p.every) }
 with_left p now (item ∷ items) connected full useful = at p (Delivering (item ∷ items) connected full useful)
 
 -- the peer once no item is left to be delivered
@@ -63,10 +63,27 @@ abbrev pub finished : Peer → (now : ℕ) → Moment → Peer
 finished p now (Delivering items connected full useful) = with_left p now items connected full useful
 finished p now _ = p
 
--- The exchange failed at this time, which is told unless the one before failed too.
+-- the kind of a failure: the peer is away, or something is wrong that somebody has to see to
+abbrev pub kind : Failure → ℕ
+kind NotReached = 0
+kind Late = 0
+kind Cut = 0
+kind (LongFrame len) = 1
+kind NotABatch = 2
+kind Unasked = 3
+kind NoCounts = 4
+kind NoMemory = 5
+kind (NotMet why) = 6 + why
+
+-- whether a failure is told: unless the exchange before it failed for one of its kind
+abbrev pub is_told : (last : Option Failure) → Failure → Bool
+is_told None why = true
+is_told (Some before) why = not (kind before == kind why)
+
+-- The exchange failed at this time.
 pub record HasFailed (p : Peer) (now : ℕ) (deed : Deed) (q : Peer) (why : Failure) : Type 0 where
-  pub deed_is : deed ≡ Fail why (p.pause == first_pause)
-  pub next : q ≡ failed p now
+  pub deed_is : deed ≡ Fail why (is_told p.last why)
+  pub next : q ≡ failed p now why
 
 -- nothing was asked of the site
 abbrev pub AsksNothing : (bodies replies : List (List ℕ)) → Type 0

@@ -1,5 +1,5 @@
 -- Worked turns of a peer with which an exchange is made every 5 seconds.
-use Rattle.std.specs.Prelude.{◌≡◌, ℕ, true, false, List, [], ◌∷◌, ◌++◌, map}
+use Rattle.std.specs.Prelude.{◌≡◌, ℕ, true, false, Some, None, List, [], ◌∷◌, ◌++◌, map}
 use Rattle.tardis_base.specs.Ids.{root}
 use Rattle.tardis_base.specs.declared.records.Write.TheVariants.{Delete}
 use Rattle.tardis_base.specs.declared.records.Record.{Record}
@@ -11,7 +11,8 @@ use Rattle.wire_lives.specs.declared.life_codes.TheConstants.{ANOTHER_LIFE, NO_I
 use Rattle.wire_talk.specs.Spellings.{reply_spelling}
 use Rattle.site_peers.specs.declared.deeds.Deed.{Deed}
 use Rattle.site_peers.specs.declared.deeds.Deed.TheVariants.{Stay, Call, Fail}
-use Rattle.site_peers.specs.declared.deeds.Failure.TheVariants.{Late, NotMet, NotABatch}
+use Rattle.site_peers.specs.declared.deeds.Failure.{Failure}
+use Rattle.site_peers.specs.declared.deeds.Failure.TheVariants.{NotReached, Late, NotMet, NotABatch}
 use Rattle.site_peers.specs.declared.moments.Moment.{Moment}
 use Rattle.site_peers.specs.declared.moments.Moment.TheVariants.{Away, Calling, Greeting, Greeted, Idle, Asked, Delivering}
 use Rattle.site_peers.specs.declared.peers.Peer.{Peer}
@@ -56,7 +57,11 @@ abbrev pub turn : ℕ → News → List (List ℕ) → List (List ℕ) → Deed 
 turn now news bodies replies deed = record { now = now; news = news; bodies = bodies; replies = replies; deed = deed }
 
 abbrev pub peer : ℕ → Moment → Peer
-peer pause moment = record { every = 5000; pause = pause; moment = moment }
+peer pause moment = record { every = 5000; pause = pause; last = None; moment = moment }
+
+-- the same, behind a failure
+abbrev pub behind : Failure → ℕ → Moment → Peer
+behind why pause moment = record { every = 5000; pause = pause; last = Some why; moment = moment }
 
 -- An exchange, the newest turn first: the peer is called at 5, the call came through at 6, the question for its introduction was written, the
 -- introduction came at 8, and at 9 the site met the peer and told its counts; the question was written, the answer came, and its three items were
@@ -93,7 +98,12 @@ PeerIsMet = IsMet (since_call one_exchange)
 -- A peer with another life than the one in which it was met: it is asked nothing, which is told, and left alone for 1 second.
 abbrev pub NotMetIsTold : Type 0
 NotMetIsTold = Moves (peer 1000 (Greeted introduction)) 9 (meeting introduction ∷ []) ((72 ∷ 1 ∷ []) ∷ []) (Fail (NotMet ANOTHER_LIFE) true)
-    (peer 2000 (Away 9 1000)) Time
+    (behind (NotMet ANOTHER_LIFE) 2000 (Away 9 1000)) Time
+
+-- so it is told where the peer was away before
+abbrev pub NotMetIsToldBehind : Type 0
+NotMetIsToldBehind = Moves (behind NotReached 32000 (Greeted introduction)) 9 (meeting introduction ∷ []) ((72 ∷ 1 ∷ []) ∷ [])
+    (Fail (NotMet ANOTHER_LIFE) true) (behind (NotMet ANOTHER_LIFE) 60000 (Away 9 32000)) Time
 
 -- the peer was asked for its introduction at 9, and all was written
 abbrev pub greeted_at_9 : Peer
@@ -101,11 +111,11 @@ greeted_at_9 = peer 1000 (Greeting 9 (record { left = []; came = [] }))
 
 -- an introduction is waited for as long as an answer
 abbrev pub GreetingLateIsTold : Type 0
-GreetingLateIsTold = Moves greeted_at_9 30009 [] [] (Fail Late true) (peer 2000 (Away 30009 1000)) Time
+GreetingLateIsTold = Moves greeted_at_9 30009 [] [] (Fail Late true) (behind Late 2000 (Away 30009 1000)) Time
 
 -- 65 bytes are no introduction, and the site isn't asked
 abbrev pub LongIntroductionIsTold : Type 0
-LongIntroductionIsTold = Moves greeted_at_9 20 [] [] (Fail (NotMet NO_INTRODUCTION) true) (peer 2000 (Away 20 1000))
+LongIntroductionIsTold = Moves greeted_at_9 20 [] [] (Fail (NotMet NO_INTRODUCTION) true) (behind (NotMet NO_INTRODUCTION) 2000 (Away 20 1000))
     (Came (frame (introduction ++ introduction ++ introduction ++ 0 ∷ 0 ∷ [])))
 
 -- the peer was asked at 9, and all was written
@@ -114,17 +124,17 @@ asked_at_9 = peer 1000 (Asked 9 (record { left = []; came = [] }))
 
 -- An answer that is no batch: the exchange failed, which is told; the peer is left alone for 1 second, and after a further failure for 2.
 abbrev pub NoBatchIsTold : Type 0
-NoBatchIsTold = Moves asked_at_9 20 [] [] (Fail NotABatch true) (peer 2000 (Away 20 1000)) (Came (frame applied))
+NoBatchIsTold = Moves asked_at_9 20 [] [] (Fail NotABatch true) (behind NotABatch 2000 (Away 20 1000)) (Came (frame applied))
 
--- 30 seconds less a millisecond are waited for an answer, and not 30; a failure behind another isn't told again
+-- 30 seconds less a millisecond are waited for an answer, and not 30; that it is away isn't told again
 abbrev pub WaitsAWhile : Type 0
 WaitsAWhile = Moves asked_at_9 30008 [] [] Stay asked_at_9 Time
 
 abbrev pub LateIsTold : Type 0
-LateIsTold = Moves asked_at_9 30009 [] [] (Fail Late true) (peer 2000 (Away 30009 1000)) Time
+LateIsTold = Moves asked_at_9 30009 [] [] (Fail Late true) (behind Late 2000 (Away 30009 1000)) Time
 
 abbrev pub LateAgainIsNotTold : Type 0
-LateAgainIsNotTold = Moves (peer 32000 (Calling 9)) 30009 [] [] (Fail Late false) (peer 60000 (Away 30009 32000)) Time
+LateAgainIsNotTold = Moves (behind NotReached 32000 (Calling 9)) 30009 [] [] (Fail Late false) (behind Late 60000 (Away 30009 32000)) Time
 
 -- the last item of a full batch is left, of which nothing was of use yet
 abbrev pub full_at_last : Peer

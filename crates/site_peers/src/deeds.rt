@@ -1,5 +1,8 @@
 //! What a peer asks of the edge.
 
+ghost use Rattle.std.specs.Prelude.{◌≡◌};
+ghost use Rattle.site_peers.specs.Moves.{kind, is_told};
+
 /// What the edge is to do for a peer.
 #[derive(Clone, Copy, PartialEq, Eq)]
 pub enum Deed {
@@ -10,7 +13,7 @@ pub enum Deed {
     /// It closes the connection, whose other side is over. Nothing failed.
     Close,
     /// It closes the connection, or gives the call up: the exchange failed. `told` says that it is to be told of, since the exchange before
-    /// didn't fail.
+    /// didn't fail for a cause of its kind.
     Fail { why: Failure, told: bool },
 }
 
@@ -35,4 +38,31 @@ pub enum Failure {
     NoCounts,
     /// There was no memory for a question, or for the batch.
     NoMemory,
+}
+
+impl Failure {
+    /// Its kind: the peer is away, or something is wrong that somebody has to see to.
+    fn kind(self) -> u32
+        ensures { result ≡ kind self }
+    {
+        match self {
+            Failure::NotReached | Failure::Late | Failure::Cut => 0,
+            Failure::LongFrame { .. } => 1,
+            Failure::NotABatch => 2,
+            Failure::Unasked => 3,
+            Failure::NoCounts => 4,
+            Failure::NoMemory => 5,
+            Failure::NotMet { why } => 6 + why as u32,
+        }
+    }
+
+    /// Whether it is told, behind the one that was last, if no exchange was done since.
+    pub(crate) fn is_told(self, last: Option<Failure>) -> bool
+        ensures { result ≡ is_told last self }
+    {
+        match last {
+            Some(before) => before.kind() != self.kind(),
+            None => true,
+        }
+    }
 }

@@ -3,7 +3,7 @@
 ghost use Rattle.site_peers.specs.Runs.{CountsAreCurrent, ExchangesAreWhole, TheMetWereMet, TimeSaysNothing, TurnsAreShort};
 ghost use Rattle.site_peers.specs.Connections.{OnlyTheMetAreAsked};
 ghost use Rattle.site_peers.specs.Rows.{ExchangeIsMade, ExchangeIsSeen, FullGoesOnAtOnce, FullOfNoUseWaits, LateAgainIsNotTold, LateIsTold};
-ghost use Rattle.site_peers.specs.Rows.{GreetingLateIsTold, LongIntroductionIsTold, NoBatchIsTold, NotMetIsTold, PeerIsMet, WaitsAWhile};
+ghost use Rattle.site_peers.specs.Rows.{GreetingLateIsTold, LongIntroductionIsTold, NoBatchIsTold, NotMetIsTold, NotMetIsToldBehind, PeerIsMet, WaitsAWhile};
 
 use rest_machine::Settling;
 
@@ -37,6 +37,7 @@ pub fn turns_are_as_worked()
     ensures seen { ExchangeIsSeen }
     ensures met { PeerIsMet }
     ensures not_met { NotMetIsTold }
+    ensures not_met_behind { NotMetIsToldBehind }
     ensures greeting_late { GreetingLateIsTold }
     ensures too_long { LongIntroductionIsTold }
     ensures no_batch { NoBatchIsTold }

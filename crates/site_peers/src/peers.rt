@@ -31,6 +31,8 @@ pub struct Peer {
     pub every: u64,
     /// So many milliseconds the peer will be left alone after a failure.
     pub pause: u64,
+    /// Why the exchange before failed, if it did.
+    pub last: Option<Failure>,
     /// Where it stands.
     pub moment: Moment,
 }
@@ -43,6 +45,7 @@ impl Peer {
         Peer {
             every: 1_000 * seconds as u64,
             pause: FIRST_PAUSE,
+            last: None,
             moment: Moment::Away { since: 0, wait: 0 },
         }
     }
@@ -308,6 +311,7 @@ impl Peer {
         let wait = wait_after(*full && *useful, self.every);
         self.moment = Moment::alone(*connected, now, wait);
         self.pause = FIRST_PAUSE;
+        self.last = None;
     }
 
     /// Gives up what is waited for, where it is late.
@@ -325,16 +329,15 @@ impl Peer {
     fn fail(&mut self, now: u64, why: Failure) -> Deed
         ensures { HasFailed self.old now result self.new why }
     {
+        let told = why.is_told(self.last);
         let pause = self.pause;
         self.pause = longer_pause(pause);
+        self.last = Some(why);
         self.moment = Moment::Away {
             since: now,
             wait: pause,
         };
-        Deed::Fail {
-            why,
-            told: pause == FIRST_PAUSE,
-        }
+        Deed::Fail { why, told }
     }
 
     /// The bytes that are to be written to the peer.

@@ -1,4 +1,4 @@
-use Rattle.site_peers.proofs.Worked.{exchange_is_made, exchange_is_seen, peer_is_met, not_met_is_told, greeting_late_is_told, long_introduction_is_told, no_batch_is_told, waits_a_while, late_is_told, late_again_is_not_told, full_goes_on_at_once, full_of_no_use_waits}
+use Rattle.site_peers.proofs.Worked.{exchange_is_made, exchange_is_seen, peer_is_met, not_met_is_told, not_met_is_told_behind, greeting_late_is_told, long_introduction_is_told, no_batch_is_told, waits_a_while, late_is_told, late_again_is_not_told, full_goes_on_at_once, full_of_no_use_waits}
 use Rattle.site_peers.proofs.laws.turns_are_as_worked.Goals as goal
 
 pub returns-clause-made : goal.returns-clause-made
@@ -30,6 +30,9 @@ returns-clause-met c = peer_is_met
 
 pub returns-clause-not_met : goal.returns-clause-not_met
 returns-clause-not_met c = not_met_is_told
+
+pub returns-clause-not_met_behind : goal.returns-clause-not_met_behind
+returns-clause-not_met_behind c = not_met_is_told_behind
 
 pub returns-clause-greeting_late : goal.returns-clause-greeting_late
 returns-clause-greeting_late c = greeting_late_is_told
