@@ -11,7 +11,7 @@ use crate::of_site_journal::CRASHES;
 use crate::of_tardisd_main::words_of;
 use crate::sites::keys;
 use crate::talks::{Talk, copied};
-use command_words::{DoorPlan, Place};
+use command_words::DaemonPlan;
 use disk_forms::{MemoryDisk, MemoryStore};
 use hub::{Connection, Ports, Ready};
 use site_peers::{Failure, Peer};
@@ -125,17 +125,16 @@ impl<'a> Doors for OneDoor<'a> {
 
     ghost opens = { λ doors opened. Unit {0} };
 
-    fn open(&mut self, doors: &[DoorPlan<'_>]) -> Result<OneByOne<'a>, GateFault> {
-        let _ = doors;
+    fn open(&mut self, plan: &DaemonPlan<'_>) -> Result<OneByOne<'a>, GateFault> {
+        let _ = plan;
         match self.edge.take() {
             Some(edge) => Ok(edge),
             None => Err(GateFault::Refused),
         }
     }
 
-    fn announce(&mut self, place: Place, doors: &[DoorPlan<'_>], found: Option<FoundSite>) {
-        let _ = place;
-        let _ = doors;
+    fn announce(&mut self, plan: &DaemonPlan<'_>, found: Option<FoundSite>) {
+        let _ = plan;
         self.found = found;
     }
 }

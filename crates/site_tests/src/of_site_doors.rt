@@ -133,14 +133,20 @@ const BEFORE_LIFE: &str = "\
 1 49000102030405060708090a0b0c0d0e0f 151b49 begin life => refused unsupported 73";
 
 /// The life that began, which each door tells.
-const LIFE_TOLD: &str =
-    "1 47 4700010001000102030405060708090a0b0c0d0e0f life => 1 of 1, 000102..";
+const LIFE_TOLD: &str = "1 47 4700010001000102030405060708090a0b0c0d0e0f life => 1 of 1, 000102..";
 
 #[test]
 fn a_life_begins_behind_the_doors_and_is_told_at_each(rt: HostRuntime) {
     let alloc = rt.alloc();
     let mut site = asked_site(&rt, alloc, keys(&rt), LIMITS);
-    assert!(rt; come_out(&rt, &mut site, FOR_PEERS, Talk::of(&rt, alloc, &[BEFORE_LIFE])));
+    assert!(rt;
+        come_out(
+            &rt,
+            &mut site,
+            FOR_PEERS,
+            Talk::of(&rt, alloc, &[BEFORE_LIFE])
+        )
+    );
     assert!(rt; begins_life(&rt, &mut site, 0, &[73, 0]));
     assert!(rt; begins_life(&rt, &mut site, 0, &[73, 0]));
     assert!(rt; begins_life(&rt, &mut site, 9, &[73, 1]));

@@ -1,8 +1,8 @@
 use crate::disks::store_of;
 use crate::sites::keys;
 use crate::talks::bytes_of;
-use command_words::{DoorKind, DoorPlan, Place};
-use hub::{End, MemoryPorts, Move, Seen};
+use command_words::{DaemonPlan, DoorKind, DoorPlan, Place};
+use hub::{End, Fetches, MemoryPorts, Move, Seen};
 use std::alloc::Global;
 use std::hash::RandomState;
 use std::process::Abort;
@@ -16,8 +16,15 @@ use tardisd_main::{
 /// The place of the site.
 const PLACE: Place = Place { sites: 3, site: 2 };
 
-/// Words of a server with two doors.
-const LINE: &str = "--site 2 --tidy --listen unix:s --peers unix:p --sites 3";
+/// Words of a server with two doors and two peers.
+const LINE: &str = "\
+--site 2 --tidy --listen unix:s --peers unix:p --sites 3 --peer unix:1 --peer h:7 --every 9 --mode 660 --idle 60";
+
+/// No site is fetched from.
+const NOTHING_FETCHED: Fetches = Fetches {
+    peers: 0,
+    seconds: 1,
+};
 
 /// The words of a line.
 pub(crate) fn words_of(rt: &impl Abort, alloc: Global, line: &str) -> Vec<String> {
@@ -43,10 +50,19 @@ fn is_door(door: &DoorPlan<'_>, kind: DoorKind, address: &str) -> bool {
     door.kind == kind && door.address == address
 }
 
-/// Whether the words are a plan to collect states at the place, and to listen at the doors.
+/// Whether a plan is to listen at the doors, at this place, and to fetch from the peers each nine seconds.
+fn is_this(plan: &DaemonPlan<'_>) -> bool {
+    let is_here = plan.place == PLACE && are_these(plan.doors.as_slice());
+    let peers = plan.peers.as_slice();
+    let fetches = plan.every == 9
+        && matches!(peers, [first, second] if *first == "unix:1" && *second == "h:7");
+    is_here && fetches
+}
+
+/// Whether the words are that plan, to collect states, and with such sockets and connections.
 fn are_planned(alloc: Global, words: &[String]) -> bool {
     match plan_of(alloc, words) {
-        Ok(plan) => are_these(plan.doors.as_slice()) && plan.place == PLACE && plan.tidy,
+        Ok(plan) => is_this(&plan) && plan.tidy && plan.mode == 0o660 && plan.idle == Some(60),
         Err(_) => false,
     }
 }
@@ -80,14 +96,13 @@ impl Doors for NotingDoors {
 
     ghost opens = { λ doors opened. Unit {0} };
 
-    fn open(&mut self, doors: &[DoorPlan<'_>]) -> Result<MemoryPorts, GateFault> {
-        self.is_opened = are_these(doors);
+    fn open(&mut self, plan: &DaemonPlan<'_>) -> Result<MemoryPorts, GateFault> {
+        self.is_opened = is_this(plan);
         Ok(MemoryPorts::new(self.alloc, Vec::new(self.alloc)))
     }
 
-    fn announce(&mut self, place: Place, doors: &[DoorPlan<'_>], found: Option<FoundSite>) {
-        let is_here = place == PLACE && are_these(doors);
-        self.is_announced = self.is_opened && is_here && found.is_none();
+    fn announce(&mut self, plan: &DaemonPlan<'_>, found: Option<FoundSite>) {
+        self.is_announced = self.is_opened && is_this(plan) && found.is_none();
     }
 }
 
@@ -200,7 +215,7 @@ fn moves(rt: &impl Abort, alloc: Global) -> Vec<Move> {
 
 /// Whether a site at the place serves this edge until it says stop.
 fn is_served(alloc: Global, keys: RandomState, ports: &mut MemoryPorts) -> bool {
-    match serve_place(alloc, keys, PLACE, true, ports) {
+    match serve_place(alloc, keys, [7; 16], PLACE, true, NOTHING_FETCHED, ports) {
         Ok(end) => end == End::Stopped,
         Err(_) => false,
     }
