@@ -5,5 +5,6 @@ pub mod Readings
 pub mod Modes
 pub mod Givens
 pub mod Runs
+pub mod Peers
 pub mod Copies
 mod Places

@@ -1,6 +1,6 @@
 //! The words of the server `tardisd`.
 
-ghost use Rattle.std.specs.Prelude.{◌≡◌, ◌<◌, ◌≤◌, Some, None, Err, map, filter_map, option_map, IfOk, IfSome};
+ghost use Rattle.std.specs.Prelude.{◌≡◌, ◌<◌, ◌≤◌, Some, None, Err, length, map, filter_map, option_map, IfOk, IfSome};
 ghost use Rattle.std.specs.String.{string_bytes};
 ghost use Rattle.command_words.specs.Settings.{settings};
 ghost use Rattle.command_words.specs.Doors.{door_of};
@@ -42,6 +42,7 @@ pub struct DaemonPlan<'a> {
 pub fn read_daemon(alloc: Global, words: &[String]) -> Result<DaemonPlan<'_>, WordsFault>
     ensures form { IfOk result (λ plan. daemon (settings (map (λ w. string_bytes w) words.now)) ≡ Some (daemon_of plan)) }
     ensures place { IfOk result (λ plan. IsPlace plan.place) }
+    ensures peers { IfOk result (λ plan. length plan.peers.items ≤ 15) }
     ensures usage { result ≡ Err WordsFault.Usage → daemon (settings (map (λ w. string_bytes w) words.now)) ≡ None }
     ensures memory { result ≡ Err WordsFault.NoMemory → (asked : Daemon) × (daemon (settings (map (λ w. string_bytes w) words.now)) ≡ Some asked) }
 {
@@ -62,6 +63,7 @@ fn plan_of<'a>(
 ) -> Result<DaemonPlan<'a>, NoMemory>
     ensures form { IfOk result (λ plan. daemon_by (settings (map (λ w. string_bytes w) words.now)) asked.now ≡ daemon_of plan) }
     ensures place { IfOk result (λ plan. plan.place ≡ asked.now.place) }
+    ensures peers { IfOk result (λ plan. length plan.peers.items ≡ length (peer_addresses (settings (map (λ w. string_bytes w) words.now)))) }
 {
     let doors = doors_of(alloc, words)?;
     let peers = peers_of(alloc, words)?;
@@ -92,6 +94,7 @@ pub(crate) struct DaemonAsked<'a> {
 fn read_asked(words: &[String]) -> Option<DaemonAsked<'_>>
     ensures form { option_map (daemon_by (settings (map (λ w. string_bytes w) words.now))) result ≡ daemon (settings (map (λ w. string_bytes w) words.now)) }
     ensures place { IfSome result (λ asked. IsPlace asked.place) }
+    ensures peers { IfSome result (λ _. length (peer_addresses (settings (map (λ w. string_bytes w) words.now))) ≤ 15) }
 {
     let names = [
         "--sites",

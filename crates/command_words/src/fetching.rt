@@ -1,6 +1,6 @@
 //! The sites from which a server fetches, and how often.
 
-ghost use Rattle.std.specs.Prelude.{◌≡◌, ◌≤◌, map, codes, IfOk, IfSome};
+ghost use Rattle.std.specs.Prelude.{◌≡◌, ◌≤◌, true, length, map, codes, IfOk, IfSome};
 ghost use Rattle.std.specs.List.{list_all};
 ghost use Rattle.std.specs.String.{string_bytes};
 ghost use Rattle.command_words.specs.Settings.{settings, values};
@@ -19,7 +19,8 @@ pub const MOST_PEERS: usize = 15;
 
 /// Whether the words name peers, at most 15, each at an address.
 pub(crate) fn are_peers(words: &[String]) -> bool
-    ensures { result ≡ are_peers (settings (map (λ w. string_bytes w) words.now)) }
+    ensures yes { result ≡ are_peers (settings (map (λ w. string_bytes w) words.now)) }
+    ensures few { result ≡ true → length (peer_addresses (settings (map (λ w. string_bytes w) words.now))) ≤ 15 }
 {
     count_of(words, "--peer") <= MOST_PEERS && have_addresses(words)
 }

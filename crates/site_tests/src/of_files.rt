@@ -123,7 +123,7 @@ struct OneDoor<'a> {
 impl<'a> Doors for OneDoor<'a> {
     type Ports = OneByOne<'a>;
 
-    ghost opens = { λ doors opened. Unit {0} };
+    ghost opens = { λ asked opened. Unit {0} };
 
     fn open(&mut self, plan: &DaemonPlan<'_>) -> Result<OneByOne<'a>, GateFault> {
         let _ = plan;
@@ -248,18 +248,19 @@ fn found_in(
     (life.found, life.end)
 }
 
-/// Two groups in a file: as they are, without the last byte of the second, and with another first byte.
+/// Three groups in a file, of the site's life and of two commits: as they are, without the last byte of the third, and with another
+/// first byte.
 #[test]
 fn a_torn_group_is_left_out_and_a_damaged_file_is_told(rt: HostRuntime) {
     let mut bytes = after(&rt, rt.alloc(), ALONE, &[TWO_COMMITS], b"");
     let (found, _) = found_in(&rt, rt.alloc(), bytes.as_slice());
     let whole = found.expect(&rt, "a site");
-    assert!(rt; whole.known == 3 && whole.groups == 2 && !whole.is_torn && !whole.is_new);
+    assert!(rt; whole.known == 3 && whole.groups == 3 && !whole.is_torn && !whole.is_new);
     let last = (whole.bytes as usize).saturating_sub(1);
     *bytes.get_mut(last).expect(&rt, "a byte") = 0;
     let (found, _) = found_in(&rt, rt.alloc(), bytes.as_slice());
     let torn = found.expect(&rt, "a site");
-    assert!(rt; torn.known == 2 && torn.groups == 1 && torn.is_torn && !torn.is_new);
+    assert!(rt; torn.known == 2 && torn.groups == 2 && torn.is_torn && !torn.is_new);
     *bytes.get_mut(0).expect(&rt, "a byte") = b'x';
     let (found, end) = found_in(&rt, rt.alloc(), bytes.as_slice());
     assert!(rt; found.is_none() && end == DaemonEnd::File(FileFault::NotALog));
@@ -313,9 +314,9 @@ fn count_of_calls(rt: &(impl Abort + RandomSource), alloc: Global) -> u64 {
     panic!(rt; "a call fails each time")
 }
 
-/// A new file is synced, measured and read, filled and synced, named and synced: 7 calls. Each of the two groups is written and
-/// synced.
+/// A new file is synced, measured and read, filled and synced, named and synced: 7 calls. Each of the three groups, that of the site's
+/// life and those of the commits, is written and synced.
 #[test]
 fn what_was_told_is_there_whichever_call_failed(rt: HostRuntime) {
-    assert_eq!(rt; count_of_calls(&rt, rt.alloc()), 11);
+    assert_eq!(rt; count_of_calls(&rt, rt.alloc()), 13);
 }

@@ -2,12 +2,11 @@ use crate::disks::store_of;
 use crate::sites::keys;
 use crate::talks::bytes_of;
 use command_words::{DaemonPlan, DoorKind, DoorPlan, Place};
-use hub::{End, Fetches, MemoryPorts, Move, Seen};
+use hub::{End, MemoryPorts, Move, Seen};
 use std::alloc::Global;
-use std::hash::RandomState;
 use std::process::Abort;
 use std::random::RandomSource;
-use tardis_base::ByteList;
+use tardis_base::{ByteList, NoMemory};
 use tardis_io::MemorySink;
 use tardisd_main::{
     DaemonEnd, Doors, FileFault, FoundSite, GateFault, plan_of, serve_place, tardisd,
@@ -16,15 +15,8 @@ use tardisd_main::{
 /// The place of the site.
 const PLACE: Place = Place { sites: 3, site: 2 };
 
-/// Words of a server with two doors and two peers.
-const LINE: &str = "\
---site 2 --tidy --listen unix:s --peers unix:p --sites 3 --peer unix:1 --peer h:7 --every 9 --mode 660 --idle 60";
-
-/// No site is fetched from.
-const NOTHING_FETCHED: Fetches = Fetches {
-    peers: 0,
-    seconds: 1,
-};
+/// Words of a server with two doors, that fetches from two peers.
+const LINE: &str = "--site 2 --tidy --listen unix:s --peers unix:p --sites 3 --peer unix:k --peer k:1 --every 60 --mode 0660 --idle 600";
 
 /// The words of a line.
 pub(crate) fn words_of(rt: &impl Abort, alloc: Global, line: &str) -> Vec<String> {
@@ -50,19 +42,26 @@ fn is_door(door: &DoorPlan<'_>, kind: DoorKind, address: &str) -> bool {
     door.kind == kind && door.address == address
 }
 
-/// Whether a plan is to listen at the doors, at this place, and to fetch from the peers each nine seconds.
-fn is_this(plan: &DaemonPlan<'_>) -> bool {
-    let is_here = plan.place == PLACE && are_these(plan.doors.as_slice());
-    let peers = plan.peers.as_slice();
-    let fetches = plan.every == 9
-        && matches!(peers, [first, second] if *first == "unix:1" && *second == "h:7");
-    is_here && fetches
+/// Whether the peers are those at `unix:k` and `k:1`.
+fn are_peers(peers: &[&str]) -> bool {
+    match peers {
+        [first, second] => *first == "unix:k" && *second == "k:1",
+        _ => false,
+    }
 }
 
-/// Whether the words are that plan, to collect states, and with such sockets and connections.
+/// Whether a plan is to collect states at the place, to listen at the doors and to fetch from the peers.
+fn is_planned(plan: &DaemonPlan<'_>) -> bool {
+    let is_fetching = are_peers(plan.peers.as_slice()) && plan.every == 60;
+    let is_of_sockets = plan.mode == 0o660 && plan.idle == Some(600);
+    let is_of_site = plan.place == PLACE && plan.tidy;
+    are_these(plan.doors.as_slice()) && is_of_site && is_fetching && is_of_sockets
+}
+
+/// Whether the words are such a plan.
 fn are_planned(alloc: Global, words: &[String]) -> bool {
     match plan_of(alloc, words) {
-        Ok(plan) => is_this(&plan) && plan.tidy && plan.mode == 0o660 && plan.idle == Some(60),
+        Ok(plan) => is_planned(&plan),
         Err(_) => false,
     }
 }
@@ -75,12 +74,28 @@ fn are_refused(alloc: Global, words: &[String]) -> bool {
     }
 }
 
+/// Words that have no form: without a door; an option that speaks of something which isn't there; a mode or a number of no range; a
+/// peer without a path; and a sixteenth peer.
+const UNPLANNED: [&str; 9] = [
+    "--sites 2",
+    "--listen unix:s --every 5",
+    "--listen h:1 --mode 0600",
+    "--listen unix:s --mode 0680",
+    "--listen unix:s --mode 00600",
+    "--listen unix:s --idle 0",
+    "--listen unix:s --peer k:1 --every 86401",
+    "--listen unix:s --peer unix:",
+    "--listen h:1 --peer a:1 --peer a:1 --peer a:1 --peer a:1 --peer a:1 --peer a:1 --peer a:1 --peer a:1 --peer a:1 --peer a:1 --peer a:1 --peer a:1 --peer a:1 --peer a:1 --peer a:1 --peer a:1",
+];
+
 #[test]
 fn words_are_a_plan_or_refused(rt: HostRuntime) {
     let words = words_of(&rt, rt.alloc(), LINE);
     assert!(rt; are_planned(rt.alloc(), words.as_slice()));
-    let words = words_of(&rt, rt.alloc(), "--sites 2");
-    assert!(rt; are_refused(rt.alloc(), words.as_slice()));
+    for line in UNPLANNED {
+        let words = words_of(&rt, rt.alloc(), line);
+        assert!(rt; are_refused(rt.alloc(), words.as_slice()));
+    }
 }
 
 /// Doors behind which nobody is, which know whether they were opened, and announced for the place.
@@ -94,15 +109,15 @@ struct NotingDoors {
 impl Doors for NotingDoors {
     type Ports = MemoryPorts;
 
-    ghost opens = { λ doors opened. Unit {0} };
+    ghost opens = { λ asked opened. Unit {0} };
 
     fn open(&mut self, plan: &DaemonPlan<'_>) -> Result<MemoryPorts, GateFault> {
-        self.is_opened = is_this(plan);
+        self.is_opened = is_planned(plan);
         Ok(MemoryPorts::new(self.alloc, Vec::new(self.alloc)))
     }
 
     fn announce(&mut self, plan: &DaemonPlan<'_>, found: Option<FoundSite>) {
-        self.is_announced = self.is_opened && is_this(plan) && found.is_none();
+        self.is_announced = self.is_opened && is_planned(plan) && found.is_none();
     }
 }
 
@@ -214,10 +229,23 @@ fn moves(rt: &impl Abort, alloc: Global) -> Vec<Move> {
 }
 
 /// Whether a site at the place serves this edge until it says stop.
-fn is_served(alloc: Global, keys: RandomState, ports: &mut MemoryPorts) -> bool {
-    match serve_place(alloc, keys, [7; 16], PLACE, true, NOTHING_FETCHED, ports) {
-        Ok(end) => end == End::Stopped,
+fn is_served(
+    rt: &(impl Abort + RandomSource),
+    alloc: Global,
+    ports: &mut MemoryPorts,
+) -> bool {
+    let words = words_of(rt, alloc, LINE);
+    match plan_of(alloc, words.as_slice()) {
+        Ok(plan) => is_stopped(serve_place(alloc, keys(rt), [7; 16], &plan, ports)),
         Err(_) => false,
+    }
+}
+
+/// Whether the edge said stop.
+fn is_stopped(end: Result<End, NoMemory>) -> bool {
+    match end {
+        Ok(end) => end == End::Stopped,
+        Err(NoMemory) => false,
     }
 }
 
@@ -239,7 +267,7 @@ fn count_told(rt: &impl Abort, alloc: Global, ports: &MemoryPorts) -> usize {
 #[test]
 fn a_site_is_served_at_its_place(rt: HostRuntime) {
     let mut ports = MemoryPorts::new(rt.alloc(), moves(&rt, rt.alloc()));
-    assert!(rt; is_served(rt.alloc(), keys(&rt), &mut ports));
+    assert!(rt; is_served(&rt, rt.alloc(), &mut ports));
     assert_eq!(rt; count_told(&rt, rt.alloc(), &ports), 1);
     drop(ports);
 }
@@ -270,7 +298,7 @@ fn count_comers(rt: &impl Abort, ports: &MemoryPorts) -> (usize, usize) {
 #[test]
 fn the_257th_connection_waits(rt: HostRuntime) {
     let mut ports = MemoryPorts::new(rt.alloc(), comers(&rt, rt.alloc(), 257));
-    assert!(rt; is_served(rt.alloc(), keys(&rt), &mut ports));
+    assert!(rt; is_served(&rt, rt.alloc(), &mut ports));
     assert!(rt; count_comers(&rt, &ports) == (256, 0));
     drop(ports);
 }

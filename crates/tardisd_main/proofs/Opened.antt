@@ -2,15 +2,13 @@
 use Rattle.std.proofs.Common.{◌≡◌, true, List, [], ◌∷◌, length, ℕ, Option, Result, subst}
 use Rattle.tardis_io.specs.Faults.{Rose}
 use Rattle.disk_store.specs.declared.disks.Disk.{Ghosts as ADisk}
-use Rattle.command_words.specs.Doors.{DoorAt}
 use Rattle.command_words.specs.declared.commands.Place.{Place}
 use Rattle.command_words.specs.declared.daemons.DaemonPlan.{DaemonPlan}
-use Rattle.command_words.specs.Daemons.{daemon_of}
+use Rattle.command_words.specs.Daemons.{Daemon, daemon_of}
 use Rattle.hub.specs.declared.ports.Seen.{Seen}
 use Rattle.log_groups.specs.declared.fronts.LogFront.{LogFront}
-use Rattle.plain_site.specs.Site.{Site}
-use Rattle.session_core.specs.Core.{Core}
-use Rattle.session_core.specs.Machine.{SiteStands}
+use Rattle.site_lives.specs.Acquainted.{Acquainted}
+use Rattle.rest_site.specs.Stands.{CoreWithLives, AcquaintedStands}
 use Rattle.site_log.specs.declared.ends.OpenEnd.{OpenEnd}
 use Rattle.site_log.specs.declared.ends.OpenEnd.TheVariants.{Disk as DiskFailed}
 use Rattle.site_log.specs.declared.opens.OpenedLog.{OpenedLog}
@@ -22,12 +20,13 @@ use Rattle.site_log.specs.Stood.{Stands}
 use Rattle.site_doors.specs.Kept.{resting}
 use Rattle.tardisd_main.specs.declared.endings.GateFault.{GateFault}
 use Rattle.tardisd_main.specs.declared.endings.DaemonEnd.{DaemonEnd}
-use Rattle.tardisd_main.specs.Files.{front_at, opens_at, not_opened, IsRefused}
+use Rattle.tardisd_main.specs.Sites.{opens_at}
+use Rattle.tardisd_main.specs.Files.{front_at, not_opened, IsRefused}
 use Rattle.tardisd_main.specs.Stores.{GoesOn, ServedFrom}
 
 module _ {K : Type 0} (k : ADisk K) where
-  pub is_refused : (place : Place) (life : List ℕ) (site : Core) (disk : K) (front : LogFront) (why : OpenEnd) (back : K) (end : DaemonEnd)
-      → front ≡ front_at place life → SiteStands site (opens_at place) → end ≡ not_opened why
+  pub is_refused : (place : Place) (life : List ℕ) (site : CoreWithLives) (disk : K) (front : LogFront) (why : OpenEnd) (back : K) (end : DaemonEnd)
+      → front ≡ front_at place life → AcquaintedStands site (opens_at place) → end ≡ not_opened why
       → IsLogRefused resting k site disk front why back → (why ≡ DiskFailed → Rose (k.faults disk) (k.faults back))
       → (k.honest disk → OpeningLeaves k disk back front) → IsRefused k place life disk back end
   is_refused place life site disk front why back end is stands tells refused cause safe =
@@ -39,15 +38,15 @@ module _ {K : Type 0} (k : ADisk K) where
         safe = λ h. subst (λ (f : LogFront). OpeningLeaves k disk back f) is (safe h);
       }
 
-  pub served_from : {P : Type 0} (opens : List DoorAt → Result P GateFault → Type 0) (seen : P → Option (List Seen)) (plan : DaemonPlan) (end : DaemonEnd)
-      (life : List ℕ) (site : Core) (disk back : K) (front : LogFront) (it : OpenedLog Core K)
-      → front ≡ front_at plan.place life → SiteStands site (opens_at plan.place)
+  pub served_from : {P : Type 0} (opens : Daemon → Result P GateFault → Type 0) (seen : P → Option (List Seen)) (plan : DaemonPlan) (end : DaemonEnd)
+      (life : List ℕ) (site : CoreWithLives) (disk back : K) (front : LogFront) (it : OpenedLog CoreWithLives K)
+      → front ≡ front_at plan.place life → AcquaintedStands site (opens_at plan.place)
       → (bodies : List (List ℕ)) × IsOpened resting k site disk front it bodies
       → IsWanted it.found.front front × (it.found.is_new ≡ true → it.found.front ≡ front)
       → (k.honest disk → OpeningLeaves k disk it.log.file.disk front)
-      → ((bodies : List (List ℕ)) (state : Site) (marks : List Mark) → Stands resting k it.log (starts state bodies) marks
-      → GoesOn opens seen k (daemon_of plan) end it.log.file.front bodies state back)
-      → ServedFrom opens seen k (daemon_of plan) end life disk back
+      → ((bodies : List (List ℕ)) (state : Acquainted) (marks : List Mark) → Stands resting k it.log (starts state bodies) marks
+      → GoesOn opens seen k (daemon_of plan) life end it.log.file.front bodies state back)
+      → ServedFrom opens seen k (daemon_of plan) life end disk back
   served_from opens seen plan end life site disk back front it is stands opened wanted safe goes_on =
       let of = opened.1 in
       let led = of.stands (opens_at plan.place) stands in
@@ -62,6 +61,6 @@ module _ {K : Type 0} (k : ADisk K) where
           between = it.log.file.disk;
           safe = λ h. subst (λ (f : LogFront). OpeningLeaves k disk it.log.file.disk f) is (safe h);
         };
-        goes_on = subst (λ (f : LogFront). GoesOn opens seen k (daemon_of plan) end f opened.0 led.0 back) of.front
+        goes_on = subst (λ (f : LogFront). GoesOn opens seen k (daemon_of plan) life end f opened.0 led.0 back) of.front
             (goes_on opened.0 led.0 (record { moment = k.moment it.log.file.disk; count = length opened.0 } ∷ []) led.1.1);
       }

@@ -1,23 +1,22 @@
 -- Runs of a hub over a site that is kept in a file.
-use Rattle.std.proofs.Common.{◌≡◌, Bool, List, [], ◌∷◌, ℕ, Option, refl, sym, ap, subst}
+use Rattle.std.proofs.Common.{◌≡◌, ◌⊎◌, inl, inr, ⊎_elim, List, [], ◌∷◌, ℕ, Option, refl, sym, ap, subst}
 use Rattle.std.specs.Prelude.{slice_index}
 use Rattle.disk_store.specs.declared.disks.Disk.{Ghosts as ADisk}
 use Rattle.hub.specs.declared.ports.Seen.{Seen}
 use Rattle.hub.specs.declared.serves.End.{End}
-use Rattle.hub.specs.Upkeeps.{UpkeepRule}
 use Rattle.hub.specs.Runs.{IsRun}
 use Rattle.log_groups.specs.declared.fronts.LogFront.{LogFront}
-use Rattle.plain_site.specs.Site.{Site}
-use Rattle.session_core.specs.Core.{Core}
-use Rattle.session_core.specs.Machine.{opened_with}
+use Rattle.command_words.specs.Daemons.{Daemon}
+use Rattle.site_lives.specs.Acquainted.{Acquainted}
+use Rattle.rest_site.specs.Stands.{CoreWithLives, opened_alone}
 use Rattle.site_log.specs.declared.logged.Logged.{Logged}
 use Rattle.site_log.specs.Kept.{Kept, starts, opens_with}
 use Rattle.site_log.specs.Images.{Mark}
 use Rattle.site_log.specs.Stood.{Stands}
 use Rattle.site_doors.specs.declared.asked_logs.AskedLog.{AskedLog}
 use Rattle.site_doors.specs.Kept.{resting}
-use Rattle.tardisd_main.specs.Sites.{upkeep_rule}
-use Rattle.tardisd_main.specs.Files.{kept_site, Keeps, ServesFile}
+use Rattle.tardisd_main.specs.Sites.{upkeep_rule, fetches_of}
+use Rattle.tardisd_main.specs.Files.{kept_site, begun, Keeps, ServesFile}
 use Rattle.tardisd_main.proofs.Runs.{weaker}
 
 abbrev life_in : List (List ℕ) → List ℕ
@@ -38,45 +37,48 @@ front_in kept = record {
 pub same_front : {S : Type 0} (a b : LogFront) (s t : S) → opens_with a s ≡ opens_with b t → a ≡ b
 same_front a b s t e = ap front_in e
 
--- a site behind its doors that stays as it is has its log still
-pub same_log : {K : Type 0} (a b : AskedLog K) → a ≡ b → a.log ≡ b.log
-same_log a b e = ap (λ c. c.log) e
-
 -- the log's machine stands for this, with some moments
-abbrev pub StandsFor : {K : Type 0} → ADisk K → Logged Core K → Kept Site → Type 0
+abbrev pub StandsFor : {K : Type 0} → ADisk K → Logged CoreWithLives K → Kept Acquainted → Type 0
 StandsFor k l kept = (marks : List Mark) × Stands resting k l kept marks
 
 -- the disk of a log keeps what its machine stands for
-at_end : {K : Type 0} (k : ADisk K) (l : Logged Core K) (kept : Kept Site) → StandsFor k l kept → Keeps k l.file.disk l.file.front kept
+at_end : {K : Type 0} (k : ADisk K) (l : Logged CoreWithLives K) (kept : Kept Acquainted) → StandsFor k l kept → Keeps k l.file.disk l.file.front kept
 at_end k l kept stands =
     record {
-      sound = stands.1.stood.1;
+      sound = stands.1.stood.0.1;
       marks = stands.0;
       counts = stands.1.counts;
       safe = stands.1.safe;
     }
 
 -- and so does the disk that is handed back, in a log with the front that it had
-pub keeps : {K : Type 0} (k : ADisk K) (l : Logged Core K) (front : LogFront) (back : K) (kept : Kept Site) → l.file.front ≡ front → back ≡ l.file.disk
+pub keeps : {K : Type 0} (k : ADisk K) (l : Logged CoreWithLives K) (front : LogFront) (back : K) (kept : Kept Acquainted) → l.file.front ≡ front → back ≡ l.file.disk
     → StandsFor k l kept → Keeps k back front kept
 keeps {K} k l front back kept same is stands =
     subst (λ (f : LogFront). Keeps k back f kept) same (subst (λ (d : K). Keeps k d l.file.front kept) (sym is) (at_end k l kept stands))
 
--- the same where nothing was done
-pub untouched : {K : Type 0} (k : ADisk K) (old new : Logged Core K) (back : K) (kept : Kept Site) → new ≡ old → back ≡ new.file.disk
-    → StandsFor k old kept → Keeps k back old.file.front kept
-untouched {K} k old new back kept same is stands =
-    keeps k old old.file.front back kept refl (subst (λ (l : Logged Core K). back ≡ l.file.disk) same is) stands
+-- and so does one whose front is that with which its machine opened
+pub keeps_opening : {K : Type 0} (k : ADisk K) (old new : Logged CoreWithLives K) (back : K) (kept : Kept Acquainted)
+    → opens_with new.file.front (opened_alone new.machine) ≡ opens_with old.file.front (opened_alone old.machine) → back ≡ new.file.disk
+    → StandsFor k new kept → Keeps k back old.file.front kept
+keeps_opening k old new back kept opening is stands =
+    keeps k new old.file.front back kept (same_front new.file.front old.file.front (opened_alone new.machine) (opened_alone old.machine) opening) is stands
+
+-- so it is where there was no memory to serve it, be it that its life has begun or not
+pub not_served : {K : Type 0} (k : ADisk K) (life : List ℕ) (bodies : List (List ℕ)) (site : Acquainted) (old new : Logged CoreWithLives K) (back : K)
+    → opens_with new.file.front (opened_alone new.machine) ≡ opens_with old.file.front (opened_alone old.machine) → back ≡ new.file.disk
+    → StandsFor k new (starts site bodies) ⊎ StandsFor k new (begun site bodies life)
+    → Keeps k back old.file.front (starts site bodies) ⊎ Keeps k back old.file.front (begun site bodies life)
+not_served k life bodies site old new back opening is stands =
+    ⊎_elim (λ (at : StandsFor k new (starts site bodies)). inl (keeps_opening k old new back (starts site bodies) opening is at))
+    (λ (at : StandsFor k new (begun site bodies life)). inr (keeps_opening k old new back (begun site bodies life) opening is at)) stands
 
 -- a run of a log's machine, whose disk is handed back
-pub serves_file : {K : Type 0} (k : ADisk K) (tidy : Bool) (rule : Option UpkeepRule) (bodies : List (List ℕ)) (site : Site) (old new : Logged Core K)
-    (back : K) (end : End) (before after : Option (List Seen)) → rule ≡ upkeep_rule tidy
-    → opens_with new.file.front (opened_with new.machine) ≡ opens_with old.file.front (opened_with old.machine) → back ≡ new.file.disk
-    → StandsFor k old (starts site bodies)
-    → ((s : Kept Site) → StandsFor k old s → IsRun kept_site rule (StandsFor k new) s end before after)
-    → ServesFile k tidy old.file.front bodies site back end before after
-serves_file {K} k tidy rule bodies site old new back end before after is_rule opening is stands run =
-    let same = same_front new.file.front old.file.front (opened_with new.machine) (opened_with old.machine) opening in
-    subst (λ (r : Option UpkeepRule). IsRun kept_site r (λ kept. Keeps k back old.file.front kept) (starts site bodies) end before after) is_rule
-    (weaker kept_site rule (StandsFor k new) (λ kept. Keeps k back old.file.front kept) (starts site bodies) end before after
-    (λ kept at. keeps k new old.file.front back kept same is at) (run (starts site bodies) stands))
+pub serves_file : {K : Type 0} (k : ADisk K) (asked : Daemon) (life : List ℕ) (bodies : List (List ℕ)) (site : Acquainted)
+    (old new : Logged CoreWithLives K) (back : K) (end : End) (before after : Option (List Seen))
+    → opens_with new.file.front (opened_alone new.machine) ≡ opens_with old.file.front (opened_alone old.machine) → back ≡ new.file.disk
+    → IsRun kept_site (upkeep_rule asked.tidy) (fetches_of asked) (StandsFor k new) (begun site bodies life) end before after
+    → ServesFile k asked life old.file.front bodies site back end before after
+serves_file {K} k asked life bodies site old new back end before after opening is run =
+    weaker kept_site (upkeep_rule asked.tidy) (fetches_of asked) (StandsFor k new) (λ kept. Keeps k back old.file.front kept) (begun site bodies life) end
+    before after (λ kept at. keeps_opening k old new back kept opening is at) run

@@ -6,7 +6,6 @@ use Rattle.tardis_io.specs.Faults.{Rose, raised}
 use Rattle.disk_store.specs.declared.disks.Disk.{Ghosts as ADisk}
 use Rattle.disk_store.specs.declared.stores.Store.{Ghosts as AStore}
 use Rattle.disk_store.specs.Stores.{ToldStore, Opens, Refuses, FindsHeld, IsOut, with_back, count_after}
-use Rattle.command_words.specs.Doors.{DoorAt}
 use Rattle.command_words.specs.Daemons.{Daemon}
 use Rattle.hub.specs.declared.ports.Seen.{Seen}
 use Rattle.tardisd_main.specs.declared.endings.GateFault.{GateFault}
@@ -32,7 +31,7 @@ rose_back : (b s0 s1 s2 : ℕ) → s0 ≤ s1 → s2 ≡ count_after b s1 → 0 <
 rose_back ℕ.zero s0 s1 s2 less is some = absurd (omega (arith, some))
 rose_back (ℕ.suc n) s0 s1 s2 less is some = rose_raised s0 s1 s2 less is
 
-module _ {D P S K : Type 0} (opens : List DoorAt → Result P GateFault → Type 0) (seen : P → Option (List Seen)) (st : AStore S K) (k : ADisk K)
+module _ {D P S K : Type 0} (opens : Daemon → Result P GateFault → Type 0) (seen : P → Option (List Seen)) (st : AStore S K) (k : ADisk K)
     (life : List ℕ) (asked : Daemon) (path : List ℕ) where
   pub no_memory : (old : D) (was : S) → KeepsAs opens seen st k life asked path old old was was NoMemory
   no_memory old was = record { became = inl (record { end_is = refl; no_edge = refl; no_file = refl }); still = λ h. h }
@@ -57,7 +56,7 @@ module _ {D P S K : Type 0} (opens : List DoorAt → Result P GateFault → Type
   pub with_file : (old new : D) (was mid now : S) (disk back : K) (end : DaemonEnd) → Opens path (st.told was) (st.told mid) (Ok disk)
       → st.told now ≡ with_back (st.told mid) back → (st.honest was → k.honest disk) → (st.honest was → st.honest now)
       → st.faults was ≤ st.faults mid → st.faults now ≡ count_after (k.faults back) (st.faults mid)
-      → (IsRefused k asked.place life disk back end × (new ≡ old)) ⊎ ServedFrom opens seen k asked end life disk back
+      → (IsRefused k asked.place life disk back end × (new ≡ old)) ⊎ ServedFrom opens seen k asked life end disk back
       → KeepsAs opens seen st k life asked path old new was now end
   with_file old new was mid now disk back end opened put honest still later counts became =
       record {

@@ -2,7 +2,6 @@
 use Rattle.std.proofs.Common.{◌≡◌, ◌⊎◌, inl, ⊎_elim, ◌∙◌, ℕ, true, false, List, Option, Some, None, Result, Ok, Err, refl, sym, ap, subst}
 use Rattle.disk_store.specs.declared.disks.Disk.{Ghosts as ADisk}
 use Rattle.disk_store.specs.declared.stores.Store.{Ghosts as AStore}
-use Rattle.command_words.specs.Doors.{DoorAt}
 use Rattle.command_words.specs.declared.daemons.DaemonPlan.{DaemonPlan}
 use Rattle.command_words.specs.Settings.{settings}
 use Rattle.command_words.specs.Daemons.{Daemon, daemon, daemon_of}
@@ -10,7 +9,7 @@ use Rattle.hub.specs.declared.ports.Seen.{Seen}
 use Rattle.hub.specs.declared.serves.End.{End}
 use Rattle.hub.specs.declared.serves.End.TheVariants.{Stopped, Unsettled, Spent as AllTurns}
 use Rattle.log_groups.specs.declared.fronts.LogFront.{LogFront}
-use Rattle.plain_site.specs.Site.{Site}
+use Rattle.site_lives.specs.Acquainted.{Acquainted}
 use Rattle.site_log.specs.declared.ends.OpenEnd.{OpenEnd}
 use Rattle.site_log.specs.declared.ends.OpenEnd.TheVariants.{Disk as DiskFailed, NotALog, OtherVersion, BadFront, OtherSite, OtherLimits, Damaged, Unfit, NoMemory as NoMemoryLeft}
 use Rattle.site_log.specs.Kept.{starts}
@@ -20,7 +19,7 @@ use Rattle.tardisd_main.specs.declared.endings.DaemonEnd.{DaemonEnd}
 use Rattle.tardisd_main.specs.declared.endings.DaemonEnd.TheVariants.{Usage, WriteFailed, NoMemory, Gate, File}
 use Rattle.tardisd_main.specs.Ends.{end_by}
 use Rattle.tardisd_main.specs.Sites.{ServesPlace}
-use Rattle.tardisd_main.specs.Files.{Keeps, ServesFile, IsRefused, not_opened}
+use Rattle.tardisd_main.specs.Files.{begun, Keeps, ServesFile, IsRefused, not_opened}
 use Rattle.tardisd_main.specs.Stores.{EndsKept, ServedFrom, NothingAsked, NoFile, WithFile, KeepsAs}
 use Rattle.tardisd_main.specs.Runs.{EndsAs, ServesAs, Serves, KeepsFile}
 
@@ -52,34 +51,35 @@ refused_by (Unfit place) = tt
 refused_by NoMemoryLeft = tt
 refused_by DiskFailed = tt
 
-over_edge : {P : Type 0} (seen : P → Option (List Seen)) (opened : Result P GateFault) (asked : Daemon) (end : DaemonEnd) → EndsAs seen opened asked end → Served end
-over_edge {P} seen (Ok ports) asked end became =
+over_edge : {P : Type 0} (seen : P → Option (List Seen)) (opened : Result P GateFault) (asked : Daemon) (life : List ℕ) (end : DaemonEnd)
+    → EndsAs seen opened asked life end → Served end
+over_edge {P} seen (Ok ports) asked life end became =
     ⊎_elim (λ (is : end ≡ NoMemory). ends_so end NoMemory is tt)
-    (λ (p : (left : P) × (why : End) × ServesPlace asked.place asked.tidy why (seen ports) (seen left) × (why ≡ Unsettled → ⊥) × (end ≡ end_by why)).
+    (λ (p : (left : P) × (why : End) × ServesPlace asked life why (seen ports) (seen left) × (why ≡ Unsettled → ⊥) × (end ≡ end_by why)).
     ends_so end (end_by p.1) p.4 (served_by p.1)) became
-over_edge {P} seen (Err fault) asked end is = ends_so end (Gate fault) is tt
+over_edge {P} seen (Err fault) asked life end is = ends_so end (Gate fault) is tt
 
-pub serves_as : {D P : Type 0} (opens : List DoorAt → Result P GateFault → Type 0) (seen : P → Option (List Seen)) (old new : D) (asked : Daemon) (end : DaemonEnd)
-    → ServesAs opens seen old new asked end → Served end
-serves_as {D} {P} opens seen old new asked end served =
+pub serves_as : {D P : Type 0} (opens : Daemon → Result P GateFault → Type 0) (seen : P → Option (List Seen)) (life : List ℕ) (old new : D) (asked : Daemon) (end : DaemonEnd)
+    → ServesAs opens seen life old new asked end → Served end
+serves_as {D} {P} opens seen life old new asked end served =
     ⊎_elim (λ (p : (end ≡ NoMemory) × (new ≡ old)). ends_so end NoMemory p.0 tt)
-    (λ (p : (opened : Result P GateFault) × opens asked.doors opened × EndsAs seen opened asked end). over_edge seen p.0 asked end p.2) served
+    (λ (p : (opened : Result P GateFault) × opens asked opened × EndsAs seen opened asked life end). over_edge seen p.0 asked life end p.2) served
 
-kept_over : {P K : Type 0} (seen : P → Option (List Seen)) (k : ADisk K) (asked : Daemon) (end : DaemonEnd) (front : LogFront) (bodies : List (List ℕ)) (site : Site)
-    (back : K) (opened : Result P GateFault) → EndsKept seen k asked.tidy end front bodies site back opened → Served end
-kept_over {P} seen k asked end front bodies site back (Ok ports) became =
-    ⊎_elim (λ (p : (end ≡ NoMemory) × Keeps k back front (starts site bodies)). ends_so end NoMemory p.0 tt)
-    (λ (p : (left : P) × (why : End) × ServesFile k asked.tidy front bodies site back why (seen ports) (seen left) × (end ≡ end_by why)).
+kept_over : {P K : Type 0} (seen : P → Option (List Seen)) (k : ADisk K) (asked : Daemon) (life : List ℕ) (end : DaemonEnd) (front : LogFront) (bodies : List (List ℕ)) (site : Acquainted)
+    (back : K) (opened : Result P GateFault) → EndsKept seen k asked life end front bodies site back opened → Served end
+kept_over {P} seen k asked life end front bodies site back (Ok ports) became =
+    ⊎_elim (λ (p : (end ≡ NoMemory) × (Keeps k back front (starts site bodies) ⊎ Keeps k back front (begun site bodies life))). ends_so end NoMemory p.0 tt)
+    (λ (p : (left : P) × (why : End) × ServesFile k asked life front bodies site back why (seen ports) (seen left) × (end ≡ end_by why)).
     ends_so end (end_by p.1) p.3 (served_by p.1)) became
-kept_over {P} seen k asked end front bodies site back (Err fault) became = ends_so end (Gate fault) became.0 tt
+kept_over {P} seen k asked life end front bodies site back (Err fault) became = ends_so end (Gate fault) became.0 tt
 
-module _ {D P S K : Type 0} (opens : List DoorAt → Result P GateFault → Type 0) (seen : P → Option (List Seen)) (st : AStore S K) (k : ADisk K)
+module _ {D P S K : Type 0} (opens : Daemon → Result P GateFault → Type 0) (seen : P → Option (List Seen)) (st : AStore S K) (k : ADisk K)
     (life : List ℕ) (asked : Daemon) (path : List ℕ) (old new : D) (was now : S) (end : DaemonEnd) where
   with_file : WithFile opens seen st k life asked path old new was now end → Served end
   with_file of =
       ⊎_elim (λ (p : IsRefused k asked.place life of.disk of.back end × (new ≡ old)). ends_so end (not_opened p.0.why) p.0.tells (refused_by p.0.why))
-      (λ (p : ServedFrom opens seen k asked end life of.disk of.back).
-      kept_over seen k asked end p.found.front p.bodies p.site of.back p.goes_on.0 p.goes_on.1.1) of.became
+      (λ (p : ServedFrom opens seen k asked life end of.disk of.back).
+      kept_over seen k asked life end p.found.front p.bodies p.site of.back p.goes_on.0 p.goes_on.1.1) of.became
 
   without_file : NoFile opens seen st k life asked path old new was now end → Served end
   without_file of =
@@ -101,7 +101,7 @@ same_some : {A : Type 0} (a b : A) → Some a ≡ Some b → a ≡ b
 same_some a b e = ap (in_some a) e
 
 -- what is asked for is what the plan says
-pub keeps_file : {D P S K O : Type 0} (opens : List DoorAt → Result P GateFault → Type 0) (seen : P → Option (List Seen)) (st : AStore S K) (k : ADisk K) (life : List ℕ)
+pub keeps_file : {D P S K O : Type 0} (opens : Daemon → Result P GateFault → Type 0) (seen : P → Option (List Seen)) (st : AStore S K) (k : ADisk K) (life : List ℕ)
     (old new : D) (was now : S) (before after : O) (words : List (List ℕ)) (end : DaemonEnd) (plan : DaemonPlan)
     → daemon (settings words) ≡ Some (daemon_of plan) → after ≡ before
     → ((path : List ℕ) → (daemon_of plan).file ≡ Some path → KeepsAs opens seen st k life (daemon_of plan) path old new was now end)
@@ -156,11 +156,11 @@ unplanned_unwritten words end why is =
     ⊎_elim (λ (p : (end ≡ Usage) × (daemon (settings words) ≡ None)). subst (λ (e : DaemonEnd). IsUsage e) (sym p.0 ∙ is) tt)
     (λ (p : (end ≡ NoMemory) × (asked : Daemon) × (daemon (settings words) ≡ Some asked)). (neither end (short end p.0)).1 is) why
 
-pub unplanned_serves : {D P S O : Type 0} (opens : List DoorAt → Result P GateFault → Type 0) (seen : P → Option (List Seen)) (old : D) (was : S) (before : O)
-    (words : List (List ℕ)) (end : DaemonEnd) → Unplanned words end → Serves opens seen old old was was before before words end
-unplanned_serves opens seen old was before words end why = λ asked is file. (inl (unplanned_some words end asked why is, refl), refl, refl)
+pub unplanned_serves : {D P S O : Type 0} (opens : Daemon → Result P GateFault → Type 0) (seen : P → Option (List Seen)) (life : List ℕ) (old : D) (was : S) (before : O)
+    (words : List (List ℕ)) (end : DaemonEnd) → Unplanned words end → Serves opens seen life old old was was before before words end
+unplanned_serves opens seen life old was before words end why = λ asked is file. (inl (unplanned_some words end asked why is, refl), refl, refl)
 
-pub unplanned_keeps : {D P S K O : Type 0} (opens : List DoorAt → Result P GateFault → Type 0) (seen : P → Option (List Seen)) (st : AStore S K) (k : ADisk K)
+pub unplanned_keeps : {D P S K O : Type 0} (opens : Daemon → Result P GateFault → Type 0) (seen : P → Option (List Seen)) (st : AStore S K) (k : ADisk K)
     (life : List ℕ) (old : D) (was : S) (before : O) (words : List (List ℕ)) (end : DaemonEnd) → Unplanned words end
     → KeepsFile opens seen st k life old old was was before before words end
 unplanned_keeps opens seen st k life old was before words end why =

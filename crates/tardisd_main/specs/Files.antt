@@ -1,19 +1,19 @@
 -- What is served from a site that is kept in a file.
-use Rattle.std.specs.Prelude.{◌≡◌, ℕ, Bool, List, map, Option}
+use Rattle.std.specs.Prelude.{◌≡◌, ℕ, List, map, Option}
 use Rattle.tardis_io.specs.Faults.{Rose}
 use Rattle.disk_store.specs.declared.disks.Disk.{Ghosts as ADisk}
 use Rattle.command_words.specs.declared.commands.Place.{Place}
 use Rattle.command_words.specs.Places.{program_limits}
+use Rattle.command_words.specs.Daemons.{Daemon}
 use Rattle.hub.specs.declared.ports.Seen.{Seen}
 use Rattle.hub.specs.declared.serves.End.{End}
 use Rattle.hub.specs.Settlings.{PlainSettling, behind_doors}
 use Rattle.hub.specs.Doors.{seen_through}
 use Rattle.hub.specs.Runs.{IsRun}
 use Rattle.log_groups.specs.declared.fronts.LogFront.{LogFront}
-use Rattle.plain_site.specs.Site.{Site, opening}
 use Rattle.plain_site.specs.Sound.{IsSound}
-use Rattle.session_core.specs.Core.{Core}
-use Rattle.session_core.specs.Machine.{SiteStands}
+use Rattle.site_lives.specs.Acquainted.{Acquainted}
+use Rattle.rest_site.specs.Stands.{CoreWithLives, AcquaintedStands}
 use Rattle.site_log.specs.declared.ends.OpenEnd.{OpenEnd}
 use Rattle.site_log.specs.declared.ends.OpenEnd.TheVariants.{Disk as DiskFailed, NotALog, OtherVersion, BadFront, OtherSite, OtherLimits, Damaged, Unfit, NoMemory}
 use Rattle.site_log.specs.declared.opens.FoundLog.{FoundLog}
@@ -25,11 +25,7 @@ use Rattle.site_doors.specs.Kept.{resting, kept_doors}
 use Rattle.tardisd_main.specs.declared.endings.FileFault.TheVariants.{Disk as DiskFails, NotALog as IsNoLog, OtherVersion as IsOtherVersion, BadFront as HasBadFront, OtherSite as IsOtherSite, OtherLimits as HasOtherLimits, Damaged as IsDamagedAt, Unfit as IsUnfitAt}
 use Rattle.tardisd_main.specs.declared.endings.DaemonEnd.{DaemonEnd}
 use Rattle.tardisd_main.specs.declared.endings.DaemonEnd.TheVariants.{NoMemory as WantedMemory, File}
-use Rattle.tardisd_main.specs.Sites.{upkeep_rule}
-
--- the site that opens at a place
-abbrev pub opens_at : Place → Site
-opens_at place = opening (program_limits place.sites) place.site
+use Rattle.tardisd_main.specs.Sites.{upkeep_rule, fetches_of, begin_life, opens_at}
 
 -- what the file of a site at a place says first, and, where it is new, of which life it is
 abbrev pub front_at : Place → List ℕ → LogFront
@@ -38,8 +34,12 @@ front_at place life =
     record { sites = limits.sites; own = place.site; max_kept = limits.max_kept; max_path = limits.max_path; max_sessions = limits.max_sessions; life = life }
 
 -- the site with what lasted of its requests, behind its doors, which settles by putting that into its file
-abbrev pub kept_site : PlainSettling (Kept Site)
+abbrev pub kept_site : PlainSettling (Kept Acquainted)
 kept_site = behind_doors (logged resting) (seen_through (logged resting) kept_doors) IsSettled with_settle
+
+-- the site that was found with these bodies, once it was asked to begin this life; one that has a life keeps it
+abbrev pub begun : Acquainted → List (List ℕ) → (life : List ℕ) → Kept Acquainted
+begun site bodies life = (logged resting).step (starts site bodies) (begin_life life)
 
 -- how a server ends whose log isn't opened
 abbrev pub not_opened : OpenEnd → DaemonEnd
@@ -59,13 +59,13 @@ module _ {K : Type 0} (k : ADisk K) where
   pub record IsRefused (place : Place) (life : List ℕ) (disk back : K) (end : DaemonEnd) : Type 0 where
     pub why : OpenEnd
     pub tells : end ≡ not_opened why
-    pub bytes : (site : Core) × (SiteStands site (opens_at place) × IsLogRefused resting k site disk (front_at place life) why back)
+    pub bytes : (site : CoreWithLives) × (AcquaintedStands site (opens_at place) × IsLogRefused resting k site disk (front_at place life) why back)
     pub cause : why ≡ DiskFailed → Rose (k.faults disk) (k.faults back)
     pub safe : k.honest disk → OpeningLeaves k disk back (front_at place life)
 
   -- A site was found on a disk: what its file was found to be, the bodies in it, and the site to which they lead from the one that
   -- opens at the place.
-  pub record IsFound (place : Place) (life : List ℕ) (disk : K) (found : FoundLog) (bodies : List (List ℕ)) (site : Site) : Type 0 where
+  pub record IsFound (place : Place) (life : List ℕ) (disk : K) (found : FoundLog) (bodies : List (List ℕ)) (site : Acquainted) : Type 0 where
     pub held : k.honest disk → Finds (k.reads disk) (front_at place life) found bodies
     pub wanted : IsWanted found.front (front_at place life)
     pub taken : TakesAll resting (opens_at place) bodies site
@@ -74,14 +74,14 @@ module _ {K : Type 0} (k : ADisk K) where
 
   -- A disk keeps what lasted: there is a moment for each time that all was settled, and each image that a crash might have left from
   -- then on holds at least what had lasted by then, in a log of this front, and nothing but what lasted, in order.
-  pub record Keeps (disk : K) (front : LogFront) (kept : Kept Site) : Type 0 where
-    pub sound : IsSound kept.state
+  pub record Keeps (disk : K) (front : LogFront) (kept : Kept Acquainted) : Type 0 where
+    pub sound : IsSound kept.state.site
     pub marks : List Mark
     pub counts : map (λ mark. mark.count) marks ≡ kept.settles
     pub safe : k.honest disk → IsSafe k disk front kept.things marks
 
-  -- A site that was found on a disk was served: a run of a hub from there on, with this upkeep and what the edge saw, in which nothing
-  -- is told before the disk keeps it.
-  abbrev pub ServesFile : Bool → LogFront → List (List ℕ) → Site → K → End → (before after : Option (List Seen)) → Type 0
-  ServesFile tidy front bodies site back end before after =
-      IsRun kept_site (upkeep_rule tidy) (λ kept. Keeps back front kept) (starts site bodies) end before after
+  -- A site that was found on a disk was served: a run of a hub from there on, once it was asked to begin this life, with the upkeep and the
+  -- peers that are asked for and what the edge saw, in which nothing is told before the disk keeps it.
+  abbrev pub ServesFile : Daemon → (life : List ℕ) → LogFront → List (List ℕ) → Acquainted → K → End → (before after : Option (List Seen)) → Type 0
+  ServesFile asked life front bodies site back end before after =
+      IsRun kept_site (upkeep_rule asked.tidy) (fetches_of asked) (λ kept. Keeps back front kept) (begun site bodies life) end before after

@@ -2,7 +2,6 @@
 use Rattle.std.specs.Prelude.{◌≡◌, ℕ, ◌++◌, ◌≤◌, ◌⊎◌, List, length, Option, Some, None, Result, Ok, Err}
 use Rattle.disk_store.specs.declared.disks.Disk.{Ghosts as ADisk}
 use Rattle.disk_store.specs.declared.stores.Store.{Ghosts as AStore}
-use Rattle.command_words.specs.Doors.{DoorAt}
 use Rattle.command_words.specs.Settings.{settings}
 use Rattle.command_words.specs.Daemons.{Daemon, daemon}
 use Rattle.command_words.specs.Helps.{AskDaemonUsage, AskVersion}
@@ -27,28 +26,28 @@ Tells text WriteFailed before after = (lost : List ℕ) × ((after ++ lost ≡ b
 Tells text NoMemory before after = after ≡ before
 Tells text _ before after = ⊥
 
--- What becomes of an edge that was asked to open: over it the site at the place is served, or there was no memory for that. A site in
--- memory can always settle.
-abbrev pub EndsAs : {P : Type 0} → (P → Option (List Seen)) → Result P GateFault → Daemon → DaemonEnd → Type 0
-EndsAs {P} seen (Ok ports) asked end =
+-- What becomes of an edge that was asked to open: over it the site at the place is served, in this life, or there was no memory for
+-- that. A site in memory can always settle.
+abbrev pub EndsAs : {P : Type 0} → (P → Option (List Seen)) → Result P GateFault → Daemon → (life : List ℕ) → DaemonEnd → Type 0
+EndsAs {P} seen (Ok ports) asked life end =
     (end ≡ NoMemory)
-    ⊎ ((left : P) × (why : End) × ServesPlace asked.place asked.tidy why (seen ports) (seen left) × (why ≡ Unsettled → ⊥) × (end ≡ end_by why))
-EndsAs seen (Err fault) asked end = end ≡ Gate fault
+    ⊎ ((left : P) × (why : End) × ServesPlace asked life why (seen ports) (seen left) × (why ≡ Unsettled → ⊥) × (end ≡ end_by why))
+EndsAs seen (Err fault) asked life end = end ≡ Gate fault
 
-module _ {D P : Type 0} (opens : List DoorAt → Result P GateFault → Type 0) (seen : P → Option (List Seen)) where
-  -- The edge was asked to open at the doors that were asked for, and this became of it. Where there was no memory for the
-  -- words it wasn't asked.
+module _ {D P : Type 0} (opens : Daemon → Result P GateFault → Type 0) (seen : P → Option (List Seen)) (life : List ℕ) where
+  -- The edge was asked to open as was asked for, and this became of it. Where there was no memory for the words it wasn't asked.
   abbrev pub ServesAs : D → D → Daemon → DaemonEnd → Type 0
   ServesAs old new asked end =
-      ((end ≡ NoMemory) × (new ≡ old)) ⊎ ((opened : Result P GateFault) × opens asked.doors opened × EndsAs seen opened asked end)
+      ((end ≡ NoMemory) × (new ≡ old)) ⊎ ((opened : Result P GateFault) × opens asked opened × EndsAs seen opened asked life end)
 
-  -- words of a server without a file: the site at their place is served at their doors, no file is opened, and nothing is written
+  -- words of a server without a file: the site at their place is served at their doors and fetches from their peers, no file is opened, and
+  -- nothing is written
   abbrev pub Serves : {S O : Type 0} → D → D → S → S → O → O → List (List ℕ) → DaemonEnd → Type 0
   Serves old new was now before after words end =
       (asked : Daemon) → daemon (settings words) ≡ Some asked → asked.file ≡ None → ServesAs old new asked end × (now ≡ was) × (after ≡ before)
 
--- words of a server with a file: the site at their place is kept in it, and served at their doors, and nothing is written
-abbrev pub KeepsFile : {D P S K O : Type 0} → (List DoorAt → Result P GateFault → Type 0) → (P → Option (List Seen)) → AStore S K → ADisk K → List ℕ → D → D
+-- words of a server with a file: the site at their place is kept in it, served at their doors and fetches from their peers, and nothing is written
+abbrev pub KeepsFile : {D P S K O : Type 0} → (Daemon → Result P GateFault → Type 0) → (P → Option (List Seen)) → AStore S K → ADisk K → List ℕ → D → D
     → S → S → O → O → List (List ℕ) → DaemonEnd → Type 0
 KeepsFile opens seen st k life old new was now before after words end =
     (asked : Daemon) (path : List ℕ) → daemon (settings words) ≡ Some asked → asked.file ≡ Some path

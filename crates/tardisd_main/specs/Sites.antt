@@ -1,19 +1,23 @@
 -- What is served from a site.
-use Rattle.std.specs.Prelude.{Bool, true, false, List, [], ◌∷◌, Option, Some, None}
+use Rattle.std.specs.Prelude.{ℕ, Bool, true, false, List, [], ◌∷◌, length, Option, Some, None}
+use Rattle.tardis_base.specs.Plain.{Event}
 use Rattle.tardis_base.specs.declared.requests.Request.TheVariants.{RaiseAuto, Tidy}
 use Rattle.tardis_base.specs.declared.replies.Reply.TheVariants.{Tidied}
 use Rattle.wire_talk.specs.Spellings.{request_spelling, reply_spelling}
+use Rattle.wire_lives.specs.declared.life_codes.TheConstants.{BEGIN_LIFE}
 use Rattle.command_words.specs.declared.commands.Place.{Place}
 use Rattle.command_words.specs.Places.{program_limits}
+use Rattle.command_words.specs.Daemons.{Daemon}
+use Rattle.hub.specs.declared.ports.Fetches.{Fetches}
 use Rattle.hub.specs.declared.ports.Seen.{Seen}
 use Rattle.hub.specs.declared.serves.End.{End}
 use Rattle.hub.specs.Settlings.{PlainSettling, behind_doors}
 use Rattle.hub.specs.Doors.{seen_through}
 use Rattle.hub.specs.Upkeeps.{UpkeepRule}
 use Rattle.hub.specs.Runs.{IsRun}
-use Rattle.plain_site.specs.Site.{Site, opening}
-use Rattle.plain_site.specs.Step.{site_machine}
+use Rattle.plain_site.specs.Site.{opening}
 use Rattle.plain_site.specs.Sound.{IsSound}
+use Rattle.site_lives.specs.Acquainted.{Acquainted, unacquainted, acquainted_machine}
 use Rattle.site_doors.specs.Rules.{site_doors}
 
 -- With `--tidy`, for each 64 replies that told of a commit or a delivery, the floor is raised and then up to 64 states are
@@ -27,11 +31,25 @@ upkeep_rule true = Some record {
   full = reply_spelling (Tidied 64);
 }
 
--- the site in memory behind its doors: it owes nothing, and settling leaves it as it is
-abbrev pub asked_site : PlainSettling Site
-asked_site = behind_doors site_machine (seen_through site_machine site_doors) (λ site. Unit {0}) (λ site. site)
+-- from the peers that are asked for, and as often as is asked
+abbrev pub fetches_of : Daemon → Fetches
+fetches_of asked = record { peers = length asked.peers; seconds = asked.every }
 
--- a run of a hub over the plain site of this place that opens, behind its doors, to a sound site, with this upkeep, and what the
--- edge saw
-abbrev pub ServesPlace : Place → Bool → End → (before after : Option (List Seen)) → Type 0
-ServesPlace place tidy end before after = IsRun asked_site (upkeep_rule tidy) IsSound (opening (program_limits place.sites) place.site) end before after
+-- the request by which a site begins this life, unless it has one
+abbrev pub begin_life : List ℕ → Event
+begin_life life = (0, BEGIN_LIFE ∷ life)
+
+-- the site that opens at a place, and knows no life
+abbrev pub opens_at : Place → Acquainted
+opens_at place = unacquainted (opening (program_limits place.sites) place.site)
+
+-- the site with the lives that it knows, in memory and behind its doors: it owes nothing, and settling leaves it as it is
+abbrev pub asked_site : PlainSettling Acquainted
+asked_site = behind_doors acquainted_machine (seen_through acquainted_machine site_doors) (λ a. Unit {0}) (λ a. a)
+
+-- A run of a hub over the plain site that opens at the place that is asked for and then begins this life, behind its doors, to a sound
+-- site, with the upkeep and the peers that are asked for, and what the edge saw.
+abbrev pub ServesPlace : Daemon → (life : List ℕ) → End → (before after : Option (List Seen)) → Type 0
+ServesPlace asked life end before after =
+    IsRun asked_site (upkeep_rule asked.tidy) (fetches_of asked) (λ a. IsSound a.site) (acquainted_machine.step (opens_at asked.place) (begin_life life)) end
+    before after

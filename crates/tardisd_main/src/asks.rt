@@ -1,6 +1,6 @@
 //! What the words of the server ask for.
 
-ghost use Rattle.std.specs.Prelude.{◌≡◌, ◌⊎◌, None, Some, map, IfOk, IfErr};
+ghost use Rattle.std.specs.Prelude.{◌≡◌, ◌⊎◌, ◌≤◌, None, Some, length, map, IfOk, IfErr};
 ghost use Rattle.std.specs.String.{string_bytes};
 ghost use Rattle.command_words.specs.Settings.{settings};
 ghost use Rattle.command_words.specs.Daemons.{Daemon, daemon, daemon_of};
@@ -10,11 +10,12 @@ use crate::endings::DaemonEnd;
 use command_words::{DaemonPlan, WordsFault, read_daemon};
 use std::alloc::Global;
 
-/// The plan that the words name. Words without the form are `Usage`; where they have it, there may be no memory for the list of
-/// doors.
+/// The plan that the words name. Words without the form are `Usage`; where they have it, there may be no memory for the lists
+/// of doors and peers.
 pub fn plan_of(alloc: Global, words: &[String]) -> Result<DaemonPlan<'_>, DaemonEnd>
     ensures plan { IfOk result (λ plan. daemon (settings (map (λ w. string_bytes w) words.now)) ≡ Some (daemon_of plan)) }
     ensures place { IfOk result (λ plan. IsPlace plan.place) }
+    ensures peers { IfOk result (λ plan. length plan.peers.items ≤ 15) }
     ensures refused { IfErr result (λ end.
         ((end ≡ DaemonEnd.Usage) × (daemon (settings (map (λ w. string_bytes w) words.now)) ≡ None))
         ⊎ ((end ≡ DaemonEnd.NoMemory) × (asked : Daemon) × (daemon (settings (map (λ w. string_bytes w) words.now)) ≡ Some asked))) }

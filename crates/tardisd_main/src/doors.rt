@@ -7,7 +7,7 @@ ghost use Rattle.tardisd_main.specs.Doors.{number_of};
 
 use crate::endings::GateFault;
 use command_words::{DaemonPlan, DoorKind};
-use hub::{Fetches, Ports};
+use hub::Ports;
 use site_doors::{FOR_ALL, FOR_CLIENTS, FOR_PEERS};
 
 /// What was found of a site in its file.
@@ -52,13 +52,5 @@ pub fn number_of(kind: DoorKind) -> u8
         DoorKind::All => FOR_ALL,
         DoorKind::Clients => FOR_CLIENTS,
         DoorKind::Peers => FOR_PEERS,
-    }
-}
-
-/// How a hub fetches from the plan's peers.
-pub(crate) fn fetches_of(plan: &DaemonPlan<'_>) -> Fetches {
-    Fetches {
-        peers: plan.peers.len() as u8,
-        seconds: plan.every,
     }
 }

@@ -1,26 +1,27 @@
 //! One site that is kept in a file, over the connections of an edge.
 
-ghost use Rattle.std.specs.Prelude.{◌≡◌, ◌⊎◌, ◌<◌, ◌+◌, ◌≤◌, ℕ, List, true, false};
+ghost use Rattle.std.specs.Prelude.{◌≡◌, ◌⊎◌, ◌<◌, ◌+◌, ◌≤◌, ℕ, List, true, false, length};
 ghost use Rattle.tardis_io.specs.Faults.{Rose};
 ghost use Rattle.command_words.specs.Daemons.{daemon_of};
 ghost use Rattle.command_words.specs.Places.{IsPlace};
 ghost use Rattle.log_groups.specs.Items.{IsFront};
 ghost use Rattle.log_groups.specs.declared.fronts.LogFront.{LogFront};
-ghost use Rattle.plain_site.specs.Site.{Site};
-ghost use Rattle.session_core.specs.Machine.{SiteStands};
+ghost use Rattle.site_lives.specs.Acquainted.{Acquainted};
+ghost use Rattle.rest_site.specs.Stands.{AcquaintedStands};
 ghost use Rattle.site_log.specs.Kept.{starts};
 ghost use Rattle.site_log.specs.Images.{Mark};
 ghost use Rattle.site_log.specs.Stood.{Stands};
 ghost use Rattle.site_doors.specs.Kept.{resting};
-ghost use Rattle.tardisd_main.specs.Files.{front_at, opens_at, not_opened, IsRefused};
+ghost use Rattle.tardisd_main.specs.Sites.{opens_at};
+ghost use Rattle.tardisd_main.specs.Files.{front_at, not_opened, IsRefused};
 ghost use Rattle.tardisd_main.specs.Stores.{KeepsAs, GoesOn, ServedFrom, ServedOver};
 
-use crate::doors::{Doors, FoundSite, fetches_of};
+use crate::doors::{Doors, FoundSite};
 use crate::endings::{DaemonEnd, FileFault, ending_of};
 use crate::sites::serve_alive;
 use command_words::{DaemonPlan, Place};
 use disk_store::{BytewiseDisk, Store};
-use hub::{Fetches, Ports};
+use hub::Ports;
 use log_groups::LogFront;
 use rest_site::RestSite;
 use site_doors::AskedLog;
@@ -32,7 +33,8 @@ use tardis_io::Failed;
 
 /// Serves the site at the plan's place, which is kept in the file at a path, over the connections at the plan's doors. The file is
 /// opened first, and the site read from it; then the edge is opened. Nobody is told of what isn't in the file yet. Where the file is
-/// new it gets this life: 16 bytes that no other file of the site has. The cost of the start grows with the file.
+/// new it gets this life: 16 bytes that no other file of the site has; and a site that has no life yet begins it before it is served. The
+/// cost of the start grows with the file.
 ///
 /// The disk goes back to the store at the end, whatever this is.
 pub fn serve_file<D: Doors, K: BytewiseDisk, S: Store<Disk = K>>(
@@ -45,6 +47,7 @@ pub fn serve_file<D: Doors, K: BytewiseDisk, S: Store<Disk = K>>(
     store: &mut S,
 ) -> DaemonEnd
     requires place { IsPlace plan.now.place }
+    requires few { length plan.now.peers.items ≤ 15 }
     ensures { KeepsAs D.opens D.Ports.seen S.Store K.Disk life (daemon_of plan.now) path.now doors.old doors.new store.old store.new result }
 {
     match RestSite::new(alloc, keys, plan.place.limits(), plan.place.site) {
@@ -65,7 +68,8 @@ fn serve_stored<D: Doors, K: BytewiseDisk, S: Store<Disk = K>>(
     store: &mut S,
 ) -> DaemonEnd
     requires place { IsPlace plan.now.place }
-    requires opens { SiteStands site (opens_at plan.now.place) }
+    requires few { length plan.now.peers.items ≤ 15 }
+    requires opens { AcquaintedStands site (opens_at plan.now.place) }
     ensures { KeepsAs D.opens D.Ports.seen S.Store K.Disk life (daemon_of plan.now) path.now doors.old doors.new store.old store.new result }
 {
     match store.open_file(path) {
@@ -99,9 +103,10 @@ fn serve_from<D: Doors, K: BytewiseDisk>(
     doors: &mut D,
 ) -> (DaemonEnd, K)
     requires place { IsPlace plan.now.place }
-    requires opens { SiteStands site (opens_at plan.now.place) }
+    requires few { length plan.now.peers.items ≤ 15 }
+    requires opens { AcquaintedStands site (opens_at plan.now.place) }
     ensures { (IsRefused K.Disk plan.now.place life disk result.1 result.0 × (doors.new ≡ doors.old))
-        ⊎ ServedFrom D.opens D.Ports.seen K.Disk (daemon_of plan.now) result.0 life disk result.1 }
+        ⊎ ServedFrom D.opens D.Ports.seen K.Disk (daemon_of plan.now) life result.0 disk result.1 }
 {
     match open_log(alloc, site, disk, &front_of(plan.place, life)) {
         Ok(opened) => {
@@ -125,13 +130,14 @@ fn serve_log<D: Doors, K: BytewiseDisk>(
     plan: &DaemonPlan<'_>,
     doors: &mut D,
 ) -> (DaemonEnd, K)
-    ensures { (bodies : List (List ℕ)) (site : Site) (marks : List Mark) → Stands resting K.Disk log (starts site bodies) marks
-        → GoesOn D.opens D.Ports.seen K.Disk (daemon_of plan.now) result.0 log.file.front bodies site result.1 }
+    requires few { length plan.now.peers.items ≤ 15 }
+    ensures { (bodies : List (List ℕ)) (site : Acquainted) (marks : List Mark) → Stands resting K.Disk log (starts site bodies) marks
+        → GoesOn D.opens D.Ports.seen K.Disk (daemon_of plan.now) life result.0 log.file.front bodies site result.1 }
 {
     match doors.open(plan) {
         Ok(ports) => {
             doors.announce(plan, Some(found));
-            serve_ports(alloc, log, life, plan.tidy, fetches_of(plan), ports)
+            serve_ports(alloc, log, life, plan, ports)
         }
         Err(fault) => (DaemonEnd::Gate(fault), log.close()),
     }
@@ -142,15 +148,15 @@ fn serve_ports<P: Ports + Drop, K: BytewiseDisk>(
     alloc: Global,
     log: Logged<RestSite, K>,
     life: [u8; 16],
-    tidy: bool,
-    fetches: Fetches,
+    plan: &DaemonPlan<'_>,
     ports: P,
 ) -> (DaemonEnd, K)
-    ensures { (bodies : List (List ℕ)) (site : Site) (marks : List Mark) → Stands resting K.Disk log (starts site bodies) marks
-        → ServedOver P.seen K.Disk tidy result.0 log.file.front bodies site result.1 ports }
+    requires few { length plan.now.peers.items ≤ 15 }
+    ensures { (bodies : List (List ℕ)) (site : Acquainted) (marks : List Mark) → Stands resting K.Disk log (starts site bodies) marks
+        → ServedOver P.seen K.Disk (daemon_of plan.now) life result.0 log.file.front bodies site result.1 ports }
 {
     let (mut asked, mut ports) = (AskedLog { alloc, log }, ports);
-    match serve_alive(alloc, &mut asked, life, tidy, fetches, &mut ports) {
+    match serve_alive(alloc, &mut asked, life, plan, &mut ports) {
         Ok(end) => (ending_of(end), asked.log.close()),
         Err(NoMemory) => (DaemonEnd::NoMemory, asked.log.close()),
     }

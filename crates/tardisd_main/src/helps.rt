@@ -22,7 +22,9 @@ pub const VERSION: &str = "tardisd 0.1.0\n";
 pub const USAGE: &str = "\
 tardisd: serves one site of a branch-and-merge key-value store to many clients
 
-usage: tardisd DOOR.. [--sites M] [--site N] [--tidy] [--file PATH]
+usage: tardisd DOOR.. [--mode MODE] [--idle SECONDS]
+               [--peer ADDR.. [--every SECONDS]]
+               [--sites M] [--site N] [--tidy] [--file PATH]
                             serve at 1 to 8 doors, as site N of M sites (1 of 1),
                             until it is killed; with --tidy states that nobody
                             reads at any more are collected; with --file the site
@@ -38,6 +40,14 @@ doors: --listen ADDR        all that there is may be asked
                             HOST:PORT, which is everybody's who reaches it; at
                             most 256 connections at once, at all doors together,
                             and a further one is told so and ended
+       --mode MODE          the mode of those that are Unix sockets, in three or
+                            four octal digits (0600)
+       --idle SECONDS       a connection that asks nothing for so long, from 1 to
+                            86400, is ended
+
+peers: --peer ADDR          fetch what is new from the site at this address, a
+                            door for all or for peers, at most 15 times
+       --every SECONDS      so long after it was done, from 1 to 86400 (5)
 
 Requests and replies are described in docs/FORMATS.md, statuses in docs/COMMANDS.md.
 ";

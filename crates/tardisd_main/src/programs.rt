@@ -1,6 +1,6 @@
 //! The server by its words.
 
-ghost use Rattle.std.specs.Prelude.{◌≡◌, ◌≤◌, ◌⊎◌, ℕ, List, None, Some, map, drop};
+ghost use Rattle.std.specs.Prelude.{◌≡◌, ◌≤◌, ◌⊎◌, ℕ, List, None, Some, length, map, drop};
 ghost use Rattle.std.specs.String.{string_bytes};
 ghost use Rattle.std.specs.Vec.Iter.{into_iter_items};
 ghost use Rattle.tardis_io.specs.Faults.{Rose};
@@ -12,7 +12,7 @@ ghost use Rattle.tardisd_main.specs.Runs.{AreNone, KeepsFile, Serves, ServesAs, 
 ghost use Rattle.tardisd_main.specs.Stores.{KeepsAs};
 
 use crate::asks::plan_of;
-use crate::doors::{Doors, fetches_of};
+use crate::doors::Doors;
 use crate::endings::{DaemonEnd, ending_of};
 use crate::files::serve_file;
 use crate::helps::{USAGE, VERSION, help_text};
@@ -42,7 +42,7 @@ pub fn carry_out<D: Doors, K: BytewiseDisk, S: Store<Disk = K>, O: Sink>(
         → (doors.new ≡ doors.old) × (store.new ≡ store.old) × WhileTold (O.given output.old) (O.given output.new) (Tells USAGE.now result) }
     ensures told_version { AskVersion (map (λ w. string_bytes w) (drop 1 (into_iter_items args)))
         → (doors.new ≡ doors.old) × (store.new ≡ store.old) × WhileTold (O.given output.old) (O.given output.new) (Tells VERSION.now result) }
-    ensures serve { Serves D.opens D.Ports.seen doors.old doors.new store.old store.new output.old output.new
+    ensures serve { Serves D.opens D.Ports.seen life doors.old doors.new store.old store.new output.old output.new
         (map (λ w. string_bytes w) (drop 1 (into_iter_items args))) result }
     ensures keep { KeepsFile D.opens D.Ports.seen S.Store K.Disk life doors.old doors.new store.old store.new output.old output.new
         (map (λ w. string_bytes w) (drop 1 (into_iter_items args))) result }
@@ -55,9 +55,10 @@ pub fn carry_out<D: Doors, K: BytewiseDisk, S: Store<Disk = K>, O: Sink>(
     }
 }
 
-/// Does what the words ask for: tells of the program, or opens the edge at their doors and serves the site at their place
-/// over the connections that come, until the edge can't be waited for. With a file the site is read from it first, and kept in
-/// it; one that is new gets this life. Words without a form are `Usage`.
+/// Does what the words ask for: tells of the program, or opens the edge at their doors and to their peers, and serves the site at
+/// their place over the connections that come and fetches, until the edge can't be waited for. With a file the site is read from it
+/// first, and kept in it; one that is new gets this life. A site that has no life yet begins this one before anything is asked of
+/// it. Words without a form are `Usage`.
 pub fn tardisd<D: Doors, K: BytewiseDisk, S: Store<Disk = K>, O: Sink>(
     alloc: Global,
     keys: RandomState,
@@ -74,7 +75,7 @@ pub fn tardisd<D: Doors, K: BytewiseDisk, S: Store<Disk = K>, O: Sink>(
         → (doors.new ≡ doors.old) × (store.new ≡ store.old) × WhileTold (O.given output.old) (O.given output.new) (Tells USAGE.now result) }
     ensures told_version { AskVersion (map (λ w. string_bytes w) words.now)
         → (doors.new ≡ doors.old) × (store.new ≡ store.old) × WhileTold (O.given output.old) (O.given output.new) (Tells VERSION.now result) }
-    ensures serve { Serves D.opens D.Ports.seen doors.old doors.new store.old store.new output.old output.new (map (λ w. string_bytes w) words.now) result }
+    ensures serve { Serves D.opens D.Ports.seen life doors.old doors.new store.old store.new output.old output.new (map (λ w. string_bytes w) words.now) result }
     ensures keep { KeepsFile D.opens D.Ports.seen S.Store K.Disk life doors.old doors.new store.old store.new output.old output.new
         (map (λ w. string_bytes w) words.now) result }
     ensures write_later { O.faults output.old ≤ O.faults output.new }
@@ -113,7 +114,8 @@ fn serve_plan<D: Doors, K: BytewiseDisk, S: Store<Disk = K>>(
     store: &mut S,
 ) -> DaemonEnd
     requires place { IsPlace plan.now.place }
-    ensures memory { (daemon_of plan.now).file ≡ None → ServesAs D.opens D.Ports.seen doors.old doors.new (daemon_of plan.now) result × (store.new ≡ store.old) }
+    requires few { length plan.now.peers.items ≤ 15 }
+    ensures memory { (daemon_of plan.now).file ≡ None → ServesAs D.opens D.Ports.seen life doors.old doors.new (daemon_of plan.now) result × (store.new ≡ store.old) }
     ensures file { (path : List ℕ) → (daemon_of plan.now).file ≡ Some path
         → KeepsAs D.opens D.Ports.seen S.Store K.Disk life (daemon_of plan.now) path doors.old doors.new store.old store.new result }
     ensures neither { (result ≡ DaemonEnd.Usage → ⊥) × (result ≡ DaemonEnd.WriteFailed → ⊥) }
@@ -124,7 +126,7 @@ fn serve_plan<D: Doors, K: BytewiseDisk, S: Store<Disk = K>>(
     }
 }
 
-/// Opens the edge at the plan's doors, and serves the site at its place, which is in memory.
+/// Opens the edge as the plan says, and serves the site at its place, which is in memory.
 fn open_and_serve<D: Doors>(
     alloc: Global,
     keys: RandomState,
@@ -133,20 +135,13 @@ fn open_and_serve<D: Doors>(
     doors: &mut D,
 ) -> DaemonEnd
     requires place { IsPlace plan.now.place }
-    ensures { ServesAs D.opens D.Ports.seen doors.old doors.new (daemon_of plan.now) result }
+    requires few { length plan.now.peers.items ≤ 15 }
+    ensures { ServesAs D.opens D.Ports.seen life doors.old doors.new (daemon_of plan.now) result }
 {
     match doors.open(plan) {
         Ok(mut ports) => {
             doors.announce(plan, None);
-            match serve_place(
-                alloc,
-                keys,
-                life,
-                plan.place,
-                plan.tidy,
-                fetches_of(plan),
-                &mut ports,
-            ) {
+            match serve_place(alloc, keys, life, plan, &mut ports) {
                 Ok(end) => ending_of(end),
                 Err(NoMemory) => DaemonEnd::NoMemory,
             }

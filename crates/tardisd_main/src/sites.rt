@@ -1,13 +1,15 @@
 //! One site over the connections of an edge.
 
-ghost use Rattle.std.specs.Prelude.{◌≡◌, ◌<◌, ◌+◌, ℕ, true, option_map, IfOk, IfSome, OnErr};
+ghost use Rattle.std.specs.Prelude.{◌≡◌, ◌⊎◌, ◌∷◌, ◌<◌, ◌≤◌, ◌+◌, ℕ, true, length, option_map, IfOk, IfSome, OnOk, OnErr};
+ghost use Rattle.wire_lives.specs.declared.life_codes.TheConstants.{BEGIN_LIFE};
 ghost use Rattle.hub.specs.Settlings.{behind_doors};
 ghost use Rattle.hub.specs.Upkeeps.{rule_of};
 ghost use Rattle.hub.specs.Runs.{close, IsRun};
+ghost use Rattle.command_words.specs.Daemons.{daemon_of};
 ghost use Rattle.command_words.specs.Places.{IsPlace};
-ghost use Rattle.tardisd_main.specs.Sites.{upkeep_rule, ServesPlace};
+ghost use Rattle.tardisd_main.specs.Sites.{upkeep_rule, fetches_of, begin_life, ServesPlace};
 
-use command_words::Place;
+use command_words::DaemonPlan;
 use hub::{End, Fetches, Ports, Upkeep, serve};
 use rest_machine::Settling;
 use rest_site::RestSite;
@@ -15,7 +17,7 @@ use site_doors::AskedSite;
 use std::alloc::Global;
 use std::hash::RandomState;
 use tardis_base::{NoMemory, ReplyBuf};
-use wire_lives::life_codes::BEGIN_LIFE;
+use wire_lives::life_codes;
 use wire_talk::{reply_codes, request_codes};
 
 /// The request RaiseAuto.
@@ -30,27 +32,26 @@ const COUNTED: [u8; 2] = [reply_codes::COMMITTED, reply_codes::APPLIED];
 /// The reply Tidied, of 64 states.
 const FULL: [u8; 5] = [reply_codes::TIDIED, 0, 0, 0, 64];
 
-/// Serves the connections of an edge as the site at this place, which opens with the root alone: each connection is an
-/// actor, and its requests and questions are answered at its door, as `hub::serve` says. Keys are found by hashing with
-/// this seed. With `tidy` the floor is raised and up to 64 closed states are collected, as actor 0 would ask it, for each 64
-/// states that were committed or delivered; and where as many were collected, once more after the next turn of the edge.
-/// Without memory for the site or the buffers nothing is done.
+/// Serves the connections of an edge as the site at the plan's place, which opens with the root alone and then begins this life: each
+/// connection is an actor, and its requests and questions are answered at its door, as `hub::serve` says. From the plan's peers it fetches as
+/// often as that says. Keys are found by hashing with this seed. With `tidy` the floor is raised and up to 64 closed states are
+/// collected, as actor 0 would ask it, for each 64 states that were committed or delivered; and where as many were collected, once
+/// more after the next turn of the edge. Without memory for the site or the buffers nothing is done.
 pub fn serve_place<P: Ports>(
     alloc: Global,
     keys: RandomState,
     life: [u8; 16],
-    place: Place,
-    tidy: bool,
-    fetches: Fetches,
+    plan: &DaemonPlan<'_>,
     ports: &mut P,
 ) -> Result<End, NoMemory>
-    requires place { IsPlace place }
-    ensures served { IfOk result (λ end. ServesPlace place tidy end (P.seen ports.old) (P.seen ports.new)) }
+    requires place { IsPlace plan.now.place }
+    requires few { length plan.now.peers.items ≤ 15 }
+    ensures served { IfOk result (λ end. ServesPlace (daemon_of plan.now) life end (P.seen ports.old) (P.seen ports.new)) }
     ensures settled { IfOk result (λ end. end ≡ End.Unsettled → ⊥) }
     ensures nothing { OnErr result (ports.new ≡ ports.old) }
 {
-    match RestSite::new(alloc, keys, place.limits(), place.site) {
-        Ok(site) => serve_machine(alloc, AskedSite { alloc, site }, life, tidy, fetches, ports),
+    match RestSite::new(alloc, keys, plan.place.limits(), plan.place.site) {
+        Ok(site) => serve_machine(alloc, AskedSite { alloc, site }, life, plan, ports),
         Err(NoMemory) => Err(NoMemory),
     }
 }
@@ -61,42 +62,78 @@ fn serve_machine<M: Settling, P: Ports>(
     alloc: Global,
     machine: M,
     life: [u8; 16],
-    tidy: bool,
-    fetches: Fetches,
+    plan: &DaemonPlan<'_>,
     ports: &mut P,
 ) -> Result<End, NoMemory>
     requires sure { (n : ℕ) → n < 256 → M.plain.is_sure (n + 1, close) ≡ true }
     requires faultless { (m : M) → M.faults m ≡ 0 }
+    requires few { length plan.now.peers.items ≤ 15 }
+    ensures served { IfOk result (λ end. (s : M.Plain) → M.stands machine s
+        → IsRun (behind_doors M.plain M.through M.is_settled M.settled) (upkeep_rule plan.now.tidy) (fetches_of (daemon_of plan.now)) (λ t. (m : M) × M.stands m t)
+        (M.plain.step s (begin_life life)) end (P.seen ports.old) (P.seen ports.new)) }
+    ensures settled { IfOk result (λ end. end ≡ End.Unsettled → ⊥) }
+    ensures nothing { OnErr result (ports.new ≡ ports.old) }
 {
     let mut machine = machine;
-    serve_alive(alloc, &mut machine, life, tidy, fetches, ports)
+    serve_alive(alloc, &mut machine, life, plan, ports)
 }
 
-/// Has a machine begin this life, unless it has one, and serves the connections of an edge by it.
+/// Has a machine begin this life, unless it has one, and serves the connections of an edge by it, with the plan's upkeep and peers.
 pub(crate) fn serve_alive<M: Settling, P: Ports>(
     alloc: Global,
     machine: &mut M,
     life: [u8; 16],
-    tidy: bool,
-    fetches: Fetches,
+    plan: &DaemonPlan<'_>,
     ports: &mut P,
 ) -> Result<End, NoMemory>
     requires sure { (n : ℕ) → n < 256 → M.plain.is_sure (n + 1, close) ≡ true }
+    requires few { length plan.now.peers.items ≤ 15 }
+    ensures served { IfOk result (λ end. (s : M.Plain) → M.stands machine.old s
+        → IsRun (behind_doors M.plain M.through M.is_settled M.settled) (upkeep_rule plan.now.tidy) (fetches_of (daemon_of plan.now)) (M.stands machine.new)
+        (M.plain.step s (begin_life life)) end (P.seen ports.old) (P.seen ports.new)) }
+    ensures unsettled { IfOk result (λ end. end ≡ End.Unsettled → 0 < M.faults machine.new) }
+    ensures stands { OnErr result ((s : M.Plain) → M.stands machine.old s → M.stands machine.new s ⊎ M.stands machine.new (M.plain.step s (begin_life life))) }
+    ensures nothing { OnErr result (ports.new ≡ ports.old) }
+    ensures opening { M.opening machine.new ≡ M.opening machine.old }
 {
-    begin_life(alloc, machine, life)?;
-    serve(alloc, machine, ports, upkeep_of(tidy), fetches)
+    match begin_life(alloc, machine, life) {
+        Ok(()) => serve(alloc, machine, ports, upkeep_of(plan.tidy), fetches_of(plan)),
+        Err(NoMemory) => Err(NoMemory),
+    }
 }
 
-/// Has the site begin this life, where it has none yet.
+/// Has a machine begin this life, unless it has one.
 fn begin_life<M: Settling>(
     alloc: Global,
     machine: &mut M,
     life: [u8; 16],
-) -> Result<(), NoMemory> {
+) -> Result<(), NoMemory>
+    ensures begun { OnOk result ((s : M.Plain) → M.stands machine.old s → M.stands machine.new (M.plain.step s (begin_life life))) }
+    ensures same { OnErr result ((s : M.Plain) → M.stands machine.old s → M.stands machine.new s) }
+    ensures opening { M.opening machine.new ≡ M.opening machine.old }
+{
     let mut reply = ReplyBuf::new(alloc)?;
-    let mut request = [BEGIN_LIFE; 17];
+    machine.act(0, &life_request(life), &mut reply)
+}
+
+/// The request to begin a life.
+fn life_request(life: [u8; 16]) -> [u8; 17]
+    ensures { result ≡ BEGIN_LIFE ∷ life }
+{
+    let mut request = [life_codes::BEGIN_LIFE; 17];
     request[1..].copy_from_slice(&life);
-    machine.act(0, &request, &mut reply)
+    request
+}
+
+/// From which peers a hub fetches, and how often.
+fn fetches_of(plan: &DaemonPlan<'_>) -> Fetches
+    requires few { length plan.now.peers.items ≤ 15 }
+    ensures { result ≡ fetches_of (daemon_of plan.now) }
+{
+    Fetches {
+        peers: plan.peers.len() as u8,
+        seconds: plan.every,
+    }
 }
 
 /// The upkeep of a site, with `tidy`.

@@ -1,17 +1,17 @@
-use Rattle.std.proofs.Common.{inl, inr, refl, option_map}
-use Rattle.hub.specs.Upkeeps.{rule_of}
+use Rattle.std.proofs.Common.{inl, inr, refl}
+use Rattle.command_words.specs.Daemons.{daemon_of}
 use Rattle.site_log.specs.Kept.{starts}
-use Rattle.tardisd_main.proofs.Serving.{untouched, serves_file, same_log}
+use Rattle.tardisd_main.proofs.Serving.{not_served, serves_file}
 use Rattle.tardisd_main.proofs.files.serve_ports.Goals as goal
 
 pub returns-in-Ok : goal.returns-in-Ok
 returns-in-Ok g c = λ bodies site marks stands.
     inr (
-      c.serve.new.ports,
+      c.serve_alive.new.ports,
       c.in-Ok.end,
-      serves_file g.K.Disk c.args.tidy (option_map rule_of c.upkeep_of.result) bodies site c.args.log c.serve.new.machine.log c.close.result c.in-Ok.end
-          (g.P.Ports.seen c.args.ports) (g.P.Ports.seen c.serve.new.ports) c.upkeep_of.ensures.rule c.serve.ensures.opening c.close.ensures (marks, stands)
-          c.in-Ok.ensures.served,
+      serves_file g.K.Disk (daemon_of c.args.plan.now) c.args.life bodies site c.args.log c.serve_alive.new.machine.log c.close.result c.in-Ok.end
+          (g.P.Ports.seen c.args.ports) (g.P.Ports.seen c.serve_alive.new.ports) c.serve_alive.ensures.opening c.close.ensures
+          (c.in-Ok.ensures.served (starts site bodies) (marks, stands)),
       c.ending_of.ensures,
     )
 
@@ -19,6 +19,6 @@ pub returns : goal.returns
 returns g c = λ bodies site marks stands.
     inl (
       refl,
-      untouched g.K.Disk c.args.log c.serve.new.machine.log c.close-in-Err.result (starts site bodies)
-          (same_log c.serve.new.machine (record { alloc = c.args.alloc; log = c.args.log }) c.in-Err.ensures.nothing.0) c.close-in-Err.ensures (marks, stands),
+      not_served g.K.Disk c.args.life bodies site c.args.log c.serve_alive.new.machine.log c.close-in-Err.result c.serve_alive.ensures.opening
+          c.close-in-Err.ensures (c.in-Err.ensures.stands (starts site bodies) (marks, stands)),
     )

@@ -4,7 +4,7 @@ use Rattle.tardisd_main.proofs.programs.serve_plan.Goals as goal
 
 pub returns-in-None-clause-neither : goal.returns-in-None-clause-neither
 returns-in-None-clause-neither g c =
-    neither c.open_and_serve.result (serves_as g.D.Doors.opens g.D.Ports.Ports.seen c.args.doors.now c.open_and_serve.new.doors (daemon_of c.args.plan.now)
+    neither c.open_and_serve.result (serves_as g.D.Doors.opens g.D.Ports.Ports.seen c.args.life c.args.doors.now c.open_and_serve.new.doors (daemon_of c.args.plan.now)
     c.open_and_serve.result c.open_and_serve.ensures)
 
 pub returns-in-Some-clause-neither : goal.returns-in-Some-clause-neither

@@ -32,7 +32,7 @@ returns-in-Err-clause-write g c = λ is.
 
 pub returns-in-Err-clause-serve : goal.returns-in-Err-clause-serve
 returns-in-Err-clause-serve g c =
-    unplanned_serves g.D.Doors.opens g.D.Ports.Ports.seen c.args.doors.now c.args.store.now c.args.output.now (map (λ w. string_bytes w) c.args.words.now)
+    unplanned_serves g.D.Doors.opens g.D.Ports.Ports.seen c.args.life c.args.doors.now c.args.store.now c.args.output.now (map (λ w. string_bytes w) c.args.words.now)
     c.in-Err.refused c.in-Err.ensures.refused
 
 pub returns-in-Err-clause-keep : goal.returns-in-Err-clause-keep

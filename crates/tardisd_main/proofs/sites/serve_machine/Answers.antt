@@ -3,4 +3,4 @@ use Rattle.tardisd_main.proofs.sites.serve_machine.Goals as goal
 
 pub returns-clause-settled : goal.returns-clause-settled
 returns-clause-settled g c =
-    always_settled c.serve.result (g.M.Settling.faults c.serve.new.machine) (c.requires.faultless c.serve.new.machine) c.serve.ensures.unsettled
+    always_settled c.serve_alive.result (g.M.Settling.faults c.serve_alive.new.machine) (c.requires.faultless c.serve_alive.new.machine) c.serve_alive.ensures.unsettled
