@@ -5,6 +5,6 @@ pub mod Readings
 pub mod Modes
 pub mod Givens
 pub mod Runs
-pub mod Peers
+pub mod PeerWords
 pub mod Copies
 mod Places
