@@ -89,7 +89,7 @@ class History:
 
     def __init__(self, path):
         self.path, self.reader, self.told = path, LogReader(), Told()
-        self.records, self.tags, self.consents, self.collected, self.fresh = {}, set(), [], 0, []
+        self.records, self.tags, self.consents, self.collected, self.fresh, self.life = {}, set(), [], 0, [], None
 
     def look(self):
         """Reads what came to the file, and compares it with what was told."""
@@ -124,8 +124,11 @@ class History:
             self.fresh.append(thing)
         elif isinstance(thing, Consent):
             self.consents.append((thing.floor, thing.number))
-        else:
+        elif isinstance(thing, Collection):
             self.collected += thing.count
+        else:
+            assert thing.site == 1 and self.life is None, "another life begins at %d" % place
+            self.life = thing.life
 
 
 # kills

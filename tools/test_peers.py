@@ -73,7 +73,7 @@ class Server:
     def start(self):
         self.process = subprocess.Popen([TARDISD, "--listen", self.address, *self.words], stdin=subprocess.DEVNULL,
                                         stdout=subprocess.DEVNULL, stderr=subprocess.PIPE, text=True)
-        count = len(self.lines)
+        self.began = count = len(self.lines)
         threading.Thread(target=self.read, args=(self.process.stderr,), daemon=True).start()
         until(lambda: len(self.lines) > count or self.process.poll() is not None, of="a server")
         assert " listens " in self.lines[count], self.lines[count:]
@@ -91,9 +91,9 @@ class Server:
         return tardis.connect(self.address, PATIENCE)
 
     def told(self, of):
-        """What it told of the peer at an address."""
+        """What it told of the peer at an address since it was started last."""
         head = "tardisd: peer %s: " % of
-        return [line[len(head):] for line in self.lines if line.startswith(head)]
+        return [line[len(head):] for line in self.lines[self.began:] if line.startswith(head)]
 
     def commit(self, **writes):
         """A transaction at the newest state."""
@@ -193,7 +193,7 @@ def test_killed_with_a_file(folder, path):
 
 
 def is_told_once(server, address, words):
-    """Whether the server tells so of the peer at an address, once within some seconds and tries."""
+    """Whether the server tells so of the peer at an address, once in this life, within some seconds and tries."""
     until(lambda: any(words in line for line in server.told(address)), of="%r" % words)
     before = len(server.told(address))
     time.sleep(4)
@@ -204,36 +204,28 @@ def is_told_once(server, address, words):
 
 def test_other_lives(folder, path):
     one_at, other_at = path("l1"), path("l2")
-    one = Server(one_at, "--sites", "2", "--site", "1", "--peer", other_at, "--every", "1")
     other = Server(other_at, "--sites", "2", "--site", "2")
+    one = Server(one_at, "--sites", "2", "--site", "1", "--peer", other_at, "--every", "1", "--file", os.path.join(folder, "lives"))
     with running(one, other):
+        until(lambda: one.told(other_at) == ["reached"], of="a line")
         other.commit(y=b"lost")
         until(lambda: one.counts() == [0, 1], of="the other's state")
         other.kill()
-        until(lambda: len(one.told(other_at)) >= 2, of="a line")
+        # (that it is away is told before, or it is there again before it was called)
+        time.sleep(2)
         other.start()
         other.commit(y=b"another")
-        time.sleep(5)
+        is_told_once(one, other_at, "another site had its number before, or it lost what it had")
         assert one.counts() == [0, 1] and not any("reached again" in line for line in one.told(other_at)), one.told(other_at)
-        assert "lost" in one.read_at_leaves()[(2, 1)][b"y"].decode()
-        # one that asks anew hears at once why
+        assert one.read_at_leaves() == {(2, 1): {b"y": b"lost"}}
+        # the file remembers whom it met, and a site that met nobody meets the other
+        one.kill()
+        one.start()
+        is_told_once(one, other_at, "another site had its number before, or it lost what it had")
         late = Server(path("l3"), "--sites", "2", "--site", "1", "--peer", other_at)
         with running(late):
             until(lambda: late.told(other_at) == ["reached"], of="a line")
-    say("a site in memory that is started again is another life")
-
-
-def test_life_is_told(folder, path):
-    """A site that goes away between two exchanges, and comes back as another life at once: the first failure says so."""
-    one_at, other_at = path("m1"), path("m2")
-    other = Server(other_at, "--sites", "2", "--site", "2")
-    one = Server(one_at, "--sites", "2", "--site", "1", "--peer", other_at, "--every", "3")
-    with running(one, other):
-        until(lambda: one.told(other_at) == ["reached"], of="a line")
-        other.kill()
-        other.start()
-        is_told_once(one, other_at, "another site had its number before, or it lost what it had")
-    say("another life is told once")
+    say("a site in memory that is started again is another life, which is told once")
 
 
 def test_who_is_not_met(folder, path):
@@ -368,7 +360,6 @@ def test_rows(folder):
     test_two_that_fetch(folder, (path("t1"), path("t2")))
     test_two_that_fetch(folder, tuple("127.0.0.1:%d" % free_port() for _ in range(2)))
     test_killed_with_a_file(folder, path)
-    test_life_is_told(folder, path)
     test_other_lives(folder, path)
     test_who_is_not_met(folder, path)
     test_idle(folder, path)

@@ -147,7 +147,7 @@ class Words(unittest.TestCase):
     def test_help_and_version(self):
         status, told, line = run_words("--help")
         self.assertEqual((status, line), (0, ""))
-        for word in "--listen ADDR", "--clients ADDR", "--peers ADDR":
+        for word in ("--listen ADDR", "--clients ADDR", "--peers ADDR", "--mode MODE", "--idle SECONDS", "--peer ADDR", "--every SECONDS"):
             self.assertIn(word, told)
         for word in "-h", "help":
             self.assertEqual(run_words(word), (0, told, ""))
@@ -156,7 +156,13 @@ class Words(unittest.TestCase):
     def test_words_without_a_form_open_nothing(self):
         nine = [word for place in range(9) for word in ("--listen", self.address + str(place))]
         for words in ((), ("--sites", "2"), ("--listen", self.address, "--sites", "17"), ("--listen",), ("--listen", "-a"), ("x",),
-                      ("--help", "-h"), ("--peers", self.address, "--clients"), ("--clients", "unix:"), nine):
+                      ("--help", "-h"), ("--peers", self.address, "--clients"), ("--clients", "unix:"), nine,
+                      ("--listen", self.address, "--every", "5"), ("--listen", "127.0.0.1:0", "--mode", "0600"),
+                      ("--listen", self.address, "--mode", "0680"), ("--listen", self.address, "--mode", "00600"),
+                      ("--listen", self.address, "--mode", "60"), ("--listen", self.address, "--idle", "0"),
+                      ("--listen", self.address, "--idle", "86401"), ("--listen", self.address, "--peer", "unix:"),
+                      ("--listen", self.address, "--peer", self.address, "--every", "0"),
+                      ("--listen", self.address) + ("--peer", self.address) * 16):
             status, told, line = run_words(*words)
             self.assertEqual((status, told), (1, ""), words)
             self.assertTrue(line.startswith("usage: tardisd --listen ADDR"), line)
@@ -230,6 +236,15 @@ class Words(unittest.TestCase):
         found = os.lstat(self.path("s"))
         self.assertEqual((stat.S_ISSOCK(found.st_mode), stat.S_IMODE(found.st_mode)), (True, 0o600))
         self.assertEqual(os.listdir(self.folder), ["s"])
+
+    def test_a_unix_socket_has_the_mode_that_is_asked_for(self):
+        for mode in "0660", "600", "0777", "0000", "2770":
+            server = Server(self.address, ("--clients", self.address + "c", "--peers", "127.0.0.1:0", "--mode", mode))
+            for name in "s", "sc":
+                self.assertEqual(stat.S_IMODE(os.lstat(self.path(name)).st_mode), int(mode, 8))
+            server.end()
+            for name in "s", "sc":
+                os.unlink(self.path(name))
 
     def test_a_door_that_fails_closes_the_others(self):
         first, last = self.address, "unix:" + self.path("no", "s")

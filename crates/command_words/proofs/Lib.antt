@@ -5,6 +5,5 @@ pub mod Readings
 pub mod Modes
 pub mod Givens
 pub mod Runs
-pub mod PeerWords
 pub mod Copies
 mod Places

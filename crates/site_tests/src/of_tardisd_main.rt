@@ -16,7 +16,8 @@ use tardisd_main::{
 const PLACE: Place = Place { sites: 3, site: 2 };
 
 /// Words of a server with two doors, that fetches from two peers.
-const LINE: &str = "--site 2 --tidy --listen unix:s --peers unix:p --sites 3 --peer unix:k --peer k:1 --every 60 --mode 0660 --idle 600";
+const LINE: &str =
+    "--site 2 --tidy --listen unix:s --peers unix:p --sites 3 --peer unix:k --peer k:1 --every 60 --mode 0660 --idle 600";
 
 /// The words of a line.
 pub(crate) fn words_of(rt: &impl Abort, alloc: Global, line: &str) -> Vec<String> {
@@ -229,11 +230,7 @@ fn moves(rt: &impl Abort, alloc: Global) -> Vec<Move> {
 }
 
 /// Whether a site at the place serves this edge until it says stop.
-fn is_served(
-    rt: &(impl Abort + RandomSource),
-    alloc: Global,
-    ports: &mut MemoryPorts,
-) -> bool {
+fn is_served(rt: &(impl Abort + RandomSource), alloc: Global, ports: &mut MemoryPorts) -> bool {
     let words = words_of(rt, alloc, LINE);
     match plan_of(alloc, words.as_slice()) {
         Ok(plan) => is_stopped(serve_place(alloc, keys(rt), [7; 16], &plan, ports)),

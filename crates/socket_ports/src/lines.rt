@@ -20,8 +20,8 @@ pub(crate) struct Line {
     address: String,
     token: Token,
     link: Link,
-    /// How often it was called.
-    calls: usize,
+    /// Which of its host's addresses is called next.
+    place: usize,
     /// What the system said when it couldn't be reached last.
     fault: Option<io::ErrorKind>,
     /// It was told that the peer is reached, and not yet that it is lost.
@@ -47,7 +47,7 @@ impl Line {
             address,
             token,
             link: Link::Absent,
-            calls: 0,
+            place: 0,
             fault: None,
             is_reached: false,
             was_reached: false,
@@ -64,10 +64,9 @@ impl Line {
                 Link::Failed
             }
         };
-        self.calls = self.calls.wrapping_add(1);
     }
 
-    fn begin(&self, net: &impl Net, registry: &Registry) -> io::Result<Plug> {
+    fn begin(&mut self, net: &impl Net, registry: &Registry) -> io::Result<Plug> {
         let stream = match path_of(self.address.as_str()) {
             Some(path) => Stream::Unix(UnixStream::connect(net, path)?),
             None => Stream::Tcp(self.begin_tcp(net)?),
@@ -76,15 +75,22 @@ impl Line {
     }
 
     /// Calls a host. Where it has several addresses each call takes the next of them.
-    fn begin_tcp(&self, net: &impl Net) -> io::Result<TcpStream> {
-        let count = self.address.to_socket_addrs(net)?.count();
-        if count == 0 {
-            return Err(io::ErrorKind::InvalidInput.into());
+    fn begin_tcp(&mut self, net: &impl Net) -> io::Result<TcpStream> {
+        let place = self.place;
+        self.place = place.saturating_add(1);
+        match self.address.to_socket_addrs(net)?.nth(place) {
+            Some(address) => TcpStream::connect(net, address),
+            None => self.begin_first(net),
         }
-        let Some(chosen) = self.address.to_socket_addrs(net)?.nth(self.calls % count) else {
-            return Err(io::ErrorKind::InvalidInput.into());
-        };
-        TcpStream::connect(net, chosen)
+    }
+
+    /// Calls the first of a host's addresses.
+    fn begin_first(&mut self, net: &impl Net) -> io::Result<TcpStream> {
+        self.place = 1;
+        match self.address.to_socket_addrs(net)?.next() {
+            Some(address) => TcpStream::connect(net, address),
+            None => Err(io::ErrorKind::InvalidInput.into()),
+        }
     }
 
     /// Ends the connection, or the call.

@@ -36,7 +36,7 @@ weaker w rule fetches to told s end before after tells run =
 pub serves_place : {E : Type 0} (asked : Daemon) (life : List ℕ) (held : CoreWithLives) (result : Result End E) (before after : Option (List Seen))
     → AcquaintedStands held (opens_at asked.place)
     → IfOk result (λ end. (a : Acquainted) → AcquaintedStands held a → IsRun asked_site (upkeep_rule asked.tidy) (fetches_of asked)
-        (λ t. (m : AskedSite) × AcquaintedStands m.site t) (acquainted_machine.step a (begin_life life)) end before after)
+    (λ t. (m : AskedSite) × AcquaintedStands m.site t) (acquainted_machine.step a (begin_life life)) end before after)
     → IfOk result (λ end. ServesPlace asked life end before after)
 serves_place asked life held (Ok end) before after stands run =
     weaker asked_site (upkeep_rule asked.tidy) (fetches_of asked) (λ t. (m : AskedSite) × AcquaintedStands m.site t) (λ a. IsSound a.site)

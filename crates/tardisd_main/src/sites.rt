@@ -97,17 +97,19 @@ pub(crate) fn serve_alive<M: Settling, P: Ports>(
     ensures opening { M.opening machine.new ≡ M.opening machine.old }
 {
     match begin_life(alloc, machine, life) {
-        Ok(()) => serve(alloc, machine, ports, upkeep_of(plan.tidy), fetches_of(plan)),
+        Ok(()) => serve(
+            alloc,
+            machine,
+            ports,
+            upkeep_of(plan.tidy),
+            fetches_of(plan),
+        ),
         Err(NoMemory) => Err(NoMemory),
     }
 }
 
 /// Has a machine begin this life, unless it has one.
-fn begin_life<M: Settling>(
-    alloc: Global,
-    machine: &mut M,
-    life: [u8; 16],
-) -> Result<(), NoMemory>
+fn begin_life<M: Settling>(alloc: Global, machine: &mut M, life: [u8; 16]) -> Result<(), NoMemory>
     ensures begun { OnOk result ((s : M.Plain) → M.stands machine.old s → M.stands machine.new (M.plain.step s (begin_life life))) }
     ensures same { OnErr result ((s : M.Plain) → M.stands machine.old s → M.stands machine.new s) }
     ensures opening { M.opening machine.new ≡ M.opening machine.old }
