@@ -1,5 +1,5 @@
 -- Runs of a hub over a site that is kept in a file.
-use Rattle.std.proofs.Common.{◌≡◌, ◌⊎◌, inl, inr, ⊎_elim, List, [], ◌∷◌, ℕ, Option, refl, sym, ap, subst}
+use Rattle.std.proofs.Common.{◌≡◌, ◌⊎◌, inl, inr, ⊎_elim, List, [], ◌∷◌, ℕ, Option, sym, ap, subst}
 use Rattle.std.specs.Prelude.{slice_index}
 use Rattle.disk_store.specs.declared.disks.Disk.{Ghosts as ADisk}
 use Rattle.hub.specs.declared.ports.Seen.{Seen}
@@ -13,7 +13,6 @@ use Rattle.site_log.specs.declared.logged.Logged.{Logged}
 use Rattle.site_log.specs.Kept.{Kept, starts, opens_with}
 use Rattle.site_log.specs.Images.{Mark}
 use Rattle.site_log.specs.Stood.{Stands}
-use Rattle.site_doors.specs.declared.asked_logs.AskedLog.{AskedLog}
 use Rattle.site_doors.specs.Kept.{resting}
 use Rattle.tardisd_main.specs.Sites.{upkeep_rule, fetches_of}
 use Rattle.tardisd_main.specs.Files.{kept_site, begun, Keeps, ServesFile}
