@@ -1,8 +1,8 @@
 //! The site as a machine, and as one that starts again from what lasted of its requests.
 
 use crate::RestSite;
-use crate::serving::serve;
 use crate::puts::put_life;
+use crate::serving::serve;
 use crate::takes::take_all;
 use rest_machine::Resting;
 use site_lives::is_of_lives;

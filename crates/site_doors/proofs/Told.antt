@@ -1,5 +1,5 @@
 -- What is told at a door.
-use Rattle.std.proofs.Common.{◌≡◌, ℕ, ◌+◌, ◌≤◌, Bool, true, false, List, [], ◌++◌, length, Result, Ok, Err, IsTrue, Option, Some, None, refl, sym, ap, subst, ◌∙◌, arith}
+use Rattle.std.proofs.Common.{◌≡◌, ℕ, ◌+◌, ◌≤◌, true, false, List, [], length, Result, Ok, IsTrue, Option, Some, None, refl, sym, ap, subst, ◌∙◌, arith}
 use Rattle.std.specs.Prelude.{IsErr, IsSome}
 use Rattle.std.specs.Option.{option_map_or}
 use Rattle.std.proofs.lemmas.Bool.{both_ways, cond-true, cond-false}
@@ -15,7 +15,7 @@ use Rattle.plain_questions.specs.declared.questions.Question.TheVariants.{At, Ke
 use Rattle.plain_questions.specs.declared.questions.Answered.{Answered}
 use Rattle.plain_questions.specs.Spellings.{answer_spelling}
 use Rattle.plain_questions.specs.Valid.{is_answer}
-use Rattle.plain_questions.specs.Readings.{question_of, answer_over_bytes}
+use Rattle.plain_questions.specs.Readings.{question_of}
 use Rattle.wire_questions.specs.Laws.{told_over_bytes, AnswersToBytesFit}
 use Rattle.wire_questions.specs.Memory.{takes_no_memory}
 use Rattle.site_questions.specs.Sure.{is_sure_question}

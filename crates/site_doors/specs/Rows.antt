@@ -1,5 +1,5 @@
 -- Worked rows: what comes in through each door, and what is answered there.
-use Rattle.std.specs.Prelude.{◌≡◌, true, false, [], ◌∷◌}
+use Rattle.std.specs.Prelude.{◌≡◌, true, false, []}
 use Rattle.plain_site.specs.RowWords.{site_after, lone_site}
 use Rattle.plain_site.specs.RowByteWords.{hex}
 use Rattle.plain_questions.specs.RowsOfReads.{parted}

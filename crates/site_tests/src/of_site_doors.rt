@@ -2,10 +2,10 @@
 
 use crate::merge_rows::BRANCHED;
 use crate::of_limits::{SIXTEEN_SITES, id_behind};
-use crate::of_steps::opened;
 use crate::sites::{LIMITS, keys};
 use crate::talks::{Row, Talk, copied, put};
 use rest_machine::Settling;
+use rest_site::RestSite;
 use site_doors::{AskedSite, FOR_ALL, FOR_CLIENTS, FOR_PEERS};
 use std::alloc::Global;
 use std::hash::RandomState;
@@ -101,7 +101,9 @@ fn come_out(rt: &impl Abort, site: &mut AskedSite, door: u8, talk: Talk) -> bool
 
 /// A site that opens with these limits, behind its doors.
 fn asked_site(rt: &impl Abort, alloc: Global, keys: RandomState, limits: Limits) -> AskedSite {
-    let site = opened(rt, alloc, keys, limits);
+    assert!(rt; limits.valid());
+    assert!(rt; 1 <= limits.sites);
+    let site = RestSite::new(alloc, keys, limits, 1).expect(rt, "room");
     AskedSite { alloc, site }
 }
 
@@ -123,6 +125,45 @@ fn each_door_lets_in_and_tells_what_it_is_for(rt: HostRuntime) {
         assert!(rt; come_out(&rt, &mut site, door, Talk::of(&rt, alloc, tables)));
     }
     drop(site);
+}
+
+/// Before the site's life began, no door tells it, and none lets it begin.
+const BEFORE_LIFE: &str = "\
+1 47                                 151b47 life => refused unsupported 71
+1 49000102030405060708090a0b0c0d0e0f 151b49 begin life => refused unsupported 73";
+
+/// The life that began, which each door tells.
+const LIFE_TOLD: &str = "1 47 4700010001000102030405060708090a0b0c0d0e0f life => 1 of 1, 000102..";
+
+#[test]
+fn a_life_begins_behind_the_doors_and_is_told_at_each(rt: HostRuntime) {
+    let alloc = rt.alloc();
+    let mut site = asked_site(&rt, alloc, keys(&rt), LIMITS);
+    assert!(rt;
+        come_out(
+            &rt,
+            &mut site,
+            FOR_PEERS,
+            Talk::of(&rt, alloc, &[BEFORE_LIFE])
+        )
+    );
+    assert!(rt; begins_life(&rt, &mut site, 0, &[73, 0]));
+    assert!(rt; begins_life(&rt, &mut site, 0, &[73, 0]));
+    assert!(rt; begins_life(&rt, &mut site, 9, &[73, 1]));
+    for (door, _) in DOORS {
+        assert!(rt; come_out(&rt, &mut site, door, Talk::of(&rt, alloc, &[LIFE_TOLD])));
+    }
+    drop(site);
+}
+
+/// Whether this is replied where a life is to begin whose first byte is this one, and whose others are 1 to 15.
+fn begins_life(rt: &impl Abort, site: &mut AskedSite, first: u8, told: &[u8]) -> bool {
+    let mut out = ReplyBuf::new(site.alloc).expect(rt, "room");
+    let asked = [73, first, 1, 2, 3, 4, 5, 6, 7, 8, 9, 10, 11, 12, 13, 14, 15];
+    site.act(0, &asked, &mut out).expect(rt, "room");
+    let is_so = out.bytes() == told;
+    drop(out);
+    is_so
 }
 
 /// The first of sixteen sites is given a state of the last one.

@@ -11,11 +11,14 @@ use crate::life_codes::LIFE;
 use tardis_base::{ReplyBuf, checked_bytes};
 use wire_item::{Reader, write_u8, write_u16};
 
-/// Who a site is: its number, how many sites there are, and its life.
+/// Who a site is.
 #[derive(Clone, Copy)]
 pub struct Introduction {
+    /// Its number, from 1.
     pub number: u16,
+    /// How many sites there are.
     pub sites: u16,
+    /// Its life: 16 bytes that were drawn when its history began.
     pub life: [u8; 16],
 }
 

@@ -1,5 +1,5 @@
 use Rattle.std.proofs.Common.{◌∙◌, Ok, length, refl, sym, ap, subst, arith, eqb-true}
-use Rattle.rest_site.specs.Stands.{CoreWithLives, and_lives}
+use Rattle.rest_site.specs.Stands.{and_lives}
 use Rattle.rest_site.specs.Takings.{Leads}
 use Rattle.rest_site.proofs.Taken.{none-there, nothing-leads, leads-on, all-taken, all-refused}
 use Rattle.rest_site.proofs.takes.take_all.Goals as goal
@@ -7,8 +7,8 @@ use Rattle.rest_site.proofs.takes.take_all.Goals as goal
 pub loop-place-init : goal.loop-place-init
 loop-place-init c = record {
   leads = (
-    let held = and_lives c.args.core.now c.args.lives.now in
-    subst (Leads held held c.args.bytes.now) (sym c.new-reader.ensures) (nothing-leads held c.args.bytes.now));
+      let held = and_lives c.args.core.now c.args.lives.now in
+      subst (Leads held held c.args.bytes.now) (sym c.new-reader.ensures) (nothing-leads held c.args.bytes.now));
   quiet = c.requires.quiet;
   stands = c.requires.stands;
   shorter = (let same = ap length c.new-reader.ensures in omega (arith, same));

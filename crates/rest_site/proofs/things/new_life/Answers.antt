@@ -1,4 +1,4 @@
-use Rattle.std.proofs.Common.{Some, refl, sym, ap, ◌∙◌, List, ℕ}
+use Rattle.std.proofs.Common.{Some, sym, ap, ◌∙◌, List, ℕ}
 use Rattle.wire_item.specs.Fronts.{bytes_front, both}
 use Rattle.wire_item.specs.Readings.{u16_front}
 use Rattle.wire_item.proofs.Fronts.{made-read, bytes_front-source}

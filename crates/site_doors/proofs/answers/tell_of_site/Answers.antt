@@ -1,4 +1,4 @@
-use Rattle.std.proofs.Common.{◌≡◌, ◌++◌, List, ℕ, sym, ap, ◌∙◌}
+use Rattle.std.proofs.Common.{◌++◌, List, ℕ, ap, ◌∙◌}
 use Rattle.plain_questions.specs.Spellings.{answer_spelling}
 use Rattle.site_doors.proofs.Told.{fits, valid}
 use Rattle.site_doors.proofs.answers.tell_of_site.Goals as goal

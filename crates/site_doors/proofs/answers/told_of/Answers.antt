@@ -1,4 +1,4 @@
-use Rattle.std.proofs.Common.{◌≡◌, Some, refl, sym, ap, subst, ◌∙◌}
+use Rattle.std.proofs.Common.{◌≡◌, Some, refl, sym, subst, ◌∙◌}
 use Rattle.std.specs.Prelude.{IfOk, IsErr, IsTrue, true}
 use Rattle.std.specs.Option.{option_map_or}
 use Rattle.plain_questions.specs.declared.questions.Denial.TheVariants.{Malformed}

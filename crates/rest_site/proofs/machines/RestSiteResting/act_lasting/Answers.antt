@@ -21,5 +21,5 @@ returns-else-is_of_lives-clause-lasts c =
     ((a : Acquainted) → AcquaintedStands c.args.self.now a → new ≡ old ++ lasting_bytes a event)
     c.serve.ensures.lasts
     (λ lasts a stands.
-        let both = subst (λ held. AcquaintedStands held a) (sym c.self.view_is) stands in
-        lasts a.site both.0 ∙ ap (λ (bytes : List ℕ). old ++ bytes) (site-bytes a event (sym c.is_of_lives.ensures ∙ c.if-is_of_lives.false)))
+    let both = subst (λ held. AcquaintedStands held a) (sym c.self.view_is) stands in
+    lasts a.site both.0 ∙ ap (λ (bytes : List ℕ). old ++ bytes) (site-bytes a event (sym c.is_of_lives.ensures ∙ c.if-is_of_lives.false)))

@@ -1,10 +1,8 @@
-use Rattle.std.proofs.Common.{◌≡◌, ℕ, List, [], sym, subst, ◌∙◌}
-use Rattle.std.specs.Prelude.{OnOk}
+use Rattle.std.proofs.Common.{◌≡◌, List, [], sym, subst, ◌∙◌}
 use Rattle.tardis_base.specs.Plain.{Event}
 use Rattle.site_lives.specs.Acquainted.{Acquainted}
 use Rattle.rest_site.specs.Stands.{AcquaintedStands}
 use Rattle.hub.specs.Doors.{seen_through}
-use Rattle.site_log.specs.declared.logged.Logged.{Logged}
 use Rattle.site_log.specs.Kept.{Kept, logged}
 use Rattle.site_log.specs.Images.{Mark}
 use Rattle.site_log.specs.Stood.{Stands}

@@ -1,5 +1,4 @@
-use Rattle.std.proofs.Common.{◌≡◌, ℕ, List, [], sym, ◌∙◌}
-use Rattle.std.specs.Prelude.{OnOk}
+use Rattle.std.proofs.Common.{◌≡◌, [], sym, ◌∙◌}
 use Rattle.tardis_base.specs.Plain.{Event}
 use Rattle.site_lives.specs.Acquainted.{Acquainted, acquainted_machine}
 use Rattle.rest_site.specs.Stands.{AcquaintedStands}
