@@ -458,7 +458,7 @@ class Run:
 
     def __init__(self, folder, seed):
         self.choose, self.lock, self.stop = random.Random(seed), threading.Lock(), threading.Event()
-        self.told, self.refused, self.commits, self.merges, self.kills, self.cuts, self.most_kept = {}, {}, 0, 0, 0, 0, 0
+        self.told, self.refused, self.commits, self.merges, self.kills, self.cuts, self.most_kept, self.most_leaves = {}, {}, 0, 0, 0, 0, 0, 0
         at = ["unix:" + os.path.join(folder, "site%d" % number) for number in range(1, SITES + 1)]
         self.links, self.sites = [], []
         for number in range(SITES):
@@ -472,30 +472,39 @@ class Run:
             self.sites.append(Server(at[number], *words))
 
     def client(self, number):
-        """Transactions at a site, and at another one when that goes away; some clients join leaves."""
+        """Transactions at a site, and at another one when that goes away. The first client joins the leaves of the first site, again and
+        again: where several sites did that, each would make leaves for the others to join."""
         choose = random.Random(number)
         while not self.stop.is_set():
             try:
-                with choose.choice(self.sites).connect() as site:
+                with (choose.choice(self.sites) if number else self.sites[0]).connect() as site:
                     site.open(follow=True)
                     for place in range(200):
                         if self.stop.is_set():
                             return
-                        self.ask(site, choose, number)
-                        time.sleep(choose.uniform(0.01, 0.08))
+                        if number:
+                            self.ask(site, choose, number)
+                            time.sleep(choose.uniform(0.01, 0.08))
+                        else:
+                            self.join(site)
+                            time.sleep(0.2)
             except (OSError, tardis.ProtocolError):
                 time.sleep(0.1)
             except tardis.Refused as refusal:
                 with self.lock:
                     self.refused[type(refusal).__name__] = self.refused.get(type(refusal).__name__, 0) + 1
 
+    def join(self, site):
+        """Joins the first leaves, and counts all."""
+        leaves = site.leaves()
+        self.most_leaves = max(self.most_leaves, leaves.total)
+        if leaves.total > 1 and site.merge(tardis.last_writer, leaves.first[:32]):
+            self.merges += 1
+
     def ask(self, site, choose, number):
-        if number % 5 == 0 and choose.randrange(4) == 0:
-            if site.merge(tardis.last_writer):
-                self.merges += 1
-            return
         writes = {choose.choice(SHARED): b"%d.%d" % (number, choose.randrange(1 << 30)) for _ in range(choose.randrange(1, 3))}
-        with site.transaction(choose.choice(["ancestor", "ancestor", "any"])) as txn:
+        forks = choose.randrange(8) == 0
+        with site.transaction(choose.choice(["ancestor", "any", "any"]), serializable=forks, snapshot=forks) as txn:
             for key in choose.sample(SHARED, 2):
                 txn.get(key)
             for key, value in writes.items():
@@ -586,8 +595,8 @@ def test_three_sites(folder, minutes, clients, seed):
         as_told = run.are_as_told()
         known = run.sites[0].stat().known
         say("%d commits were told, %d merges made, %d kills, %d cuts; refused: %s" % (run.commits, run.merges, run.kills, run.cuts, run.refused))
-        say("after %.1f seconds of peace all three know the same %d states and read the same; up to %d states were kept" % (
-            took, known, run.most_kept))
+        say("after %.1f seconds of peace all three know the same %d states and read the same; up to %d states were kept, and %d leaves" % (
+            took, known, run.most_kept, run.most_leaves))
         say("%s records are kept, the same at each, and as they were told" % ", ".join(map(str, as_told)))
         run.settle_down()
         say("once their leaves are joined they keep %s states" % ", ".join(str(site.stat().kept) for site in run.sites))
