@@ -111,6 +111,20 @@ class Server:
     def counts(self):
         return [line.count for line in self.stat().sites]
 
+    def records(self):
+        """The records of all states that are kept, by Pull, a batch at a time."""
+        found = {}
+        with self.connect() as site:
+            counts = [0 for _ in site.stat().sites]
+            while True:
+                batch = site.pull(counts)
+                fresh = [record for record in batch.records if record.id not in found]
+                if not fresh:
+                    return found
+                for record in fresh:
+                    found[record.id] = record
+                    counts[record.id.site - 1] = max(counts[record.id.site - 1], record.id.sequence)
+
     def read_at_leaves(self):
         """The leaves, and what is read at each."""
         with self.connect() as site:
@@ -523,18 +537,15 @@ class Run:
             assert all(has >= told for has, told in zip(counts, most)), "%s of %s are there" % (counts, most)
 
     def are_as_told(self):
-        """What is kept of the states that were told has what was written, at each site. Gives how many are kept at each."""
-        found = []
-        for server in self.sites:
-            with server.connect() as site:
-                kept = 0
-                for state in site.history().states:
-                    if state.id in self.told:
-                        kept += 1
-                        writes = {write.key: write.value for write in state.writes}
-                        assert writes == self.told[state.id], "%s was told otherwise: %s" % (state.id, writes)
-                found.append(kept)
-        return found
+        """What is kept of the states that were told has what was written, at each site, and those that two keep are the same there. Gives
+        how many are kept at each."""
+        pulled = [server.records() for server in self.sites]
+        for records in pulled:
+            for id, record in records.items():
+                if id in self.told:
+                    assert {write.key: write.value for write in record.writes} == self.told[id], "%s is another than was told: %s" % (id, record)
+                assert all(other.get(id, record) == record for other in pulled), "%s isn't the same at all sites" % (id,)
+        return [len(records) for records in pulled]
 
     def settle_down(self):
         """Leaves are joined at one site, and some transactions follow at each: then few states are kept."""
@@ -577,7 +588,7 @@ def test_three_sites(folder, minutes, clients, seed):
         say("%d commits were told, %d merges made, %d kills, %d cuts; refused: %s" % (run.commits, run.merges, run.kills, run.cuts, run.refused))
         say("after %.1f seconds of peace all three know the same %d states and read the same; up to %d states were kept" % (
             took, known, run.most_kept))
-        say("of those that were told %s are kept, as they were told" % ", ".join(map(str, as_told)))
+        say("%s records are kept, the same at each, and as they were told" % ", ".join(map(str, as_told)))
         run.settle_down()
         say("once their leaves are joined they keep %s states" % ", ".join(str(site.stat().kept) for site in run.sites))
         told = [len(site.lines) for site in run.sites]
