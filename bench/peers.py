@@ -1,12 +1,12 @@
 #!/usr/bin/env python3
 """Measures how fast `tardisd --peer` fetches: a site that has nothing yet, and a client of another that commits small records.
 
-usage: bench/peers.py [--tardisd PROGRAM] [--file] [--every SECONDS] [RECORDS]
+usage: bench/peers.py [--tardisd PROGRAM] [--file] [--every SECONDS] [--rate COMMITS] [RECORDS]
 
 Two sites in a folder of their own, over Unix sockets: each fetches from the other and collects (--every 1 where nothing else is named,
 --tidy), in memory or in files (--file). A client of site 1 commits so many transactions of one key and a value of 8 bytes (a million where no number
 is named), many at once, and holds back while the site keeps more than 12,000 states: a site keeps at most 16,384, and a state goes once the
-other site has promised that it has it. Site 2 has a client that only reads.
+other site has promised that it has it. With --rate it commits so many a second instead. Site 2 has a client that only reads.
 
 Lines tell how long it took until site 2 had all, records a second, how many bytes that are, how many states each site kept at most,
 and how long a plain copy of as many bytes over a Unix socket took on the same machine."""
@@ -97,7 +97,12 @@ def copy_time(size):
     return time.perf_counter() - began
 
 
-def measure(program, every, in_file, records, folder):
+def may_go_on(made, began, rate, kept):
+    """Whether more may be committed now."""
+    return kept < MOST_KEPT and (rate == 0 or made < rate * (time.perf_counter() - began))
+
+
+def measure(program, every, in_file, rate, records, folder):
     (address, source), (other, target) = (started(program, folder, number, every, in_file) for number in (1, 2))
     try:
         writer, here, there = Writer(address), tardis.connect(address, timeout=PATIENCE), tardis.connect(other, timeout=PATIENCE)
@@ -107,8 +112,8 @@ def measure(program, every, in_file, records, folder):
         while made < records or there.stat().known < records + 1:
             kept = [here.stat().kept, there.stat().kept]
             most = [max(pair) for pair in zip(most, kept)]
-            if made < records and kept[0] < MOST_KEPT:
-                count = min(BATCH, records - made)
+            if made < records and may_go_on(made, began, rate, kept[0]):
+                count = min(BATCH if rate == 0 else max(1, rate // 100), records - made)
                 writer.ask(b"".join(transaction(made + it) for it in range(count)), 3 * count)
                 made += count
             else:
@@ -134,10 +139,11 @@ def main():
     words.add_argument("--tardisd", default=os.path.join(TOP, "crates", "tardisd", "out", "tardisd"))
     words.add_argument("--file", action="store_true")
     words.add_argument("--every", type=int, default=1)
+    words.add_argument("--rate", type=int, default=0)
     words.add_argument("records", nargs="?", type=int, default=1_000_000)
     asked = words.parse_args()
     with tempfile.TemporaryDirectory(prefix="peers") as folder:
-        measure(os.path.abspath(asked.tardisd), asked.every, asked.file, asked.records, folder)
+        measure(os.path.abspath(asked.tardisd), asked.every, asked.file, asked.rate, asked.records, folder)
 
 
 if __name__ == "__main__":

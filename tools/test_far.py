@@ -4,7 +4,7 @@
 usage: tools/test_far.py [TARDISD [SECONDS]]
 
 The program is ./tardisd of this repository, unless another is named. Each site is kept in a file, fetches from both others and
-collects (--peer, --every 1, --tidy); its clients come over a Unix socket, change counters that all sites share, and merge what
+collects (--peer, --every 1, --tidy); its clients come over a Unix socket, change keys that all sites share, and merge what
 forked. After 20 seconds of that, or so many, no client asks for anything more. From then on it is measured how long it takes until all
 three have the same states. At their leaves they have to read the same then, and each commit that was answered has to be there.
 
@@ -57,7 +57,7 @@ class Client(threading.Thread):
                     self.change(site)
                     if self.random.random() < 0.1:
                         with contextlib.suppress(tardis.Refused):
-                            site.merge(tardis.counter)
+                            site.merge(tardis.last_writer)
                     time.sleep(0.01)
         except Exception as fault:  # told by the test
             self.fault = fault

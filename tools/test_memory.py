@@ -41,8 +41,13 @@ def fill(site, most):
 
 
 def reads_all(site, batches):
+    return all(reads(site, batch) for batch in range(batches))
+
+
+def reads(site, batch):
+    """Whether the batch is read."""
     with site.transaction() as txn:
-        return all(txn.value(b"key%d.%d" % (batch, n)) == VALUE for batch in range(batches) for n in range(WRITES))
+        return all(txn.value(b"key%d.%d" % (batch, n)) == VALUE for n in range(WRITES))
 
 
 def test(program, size, address):

@@ -20,12 +20,13 @@ use Rattle.plain_site.specs.Sound.{IsSound}
 use Rattle.site_lives.specs.Acquainted.{Acquainted, unacquainted, acquainted_machine}
 use Rattle.site_doors.specs.Rules.{site_doors}
 
--- With `--tidy`, for each 64 replies that told of a commit or a delivery, the floor is raised and then up to 64 states are
--- collected; and again in the next turn where as many were. 8 is the first byte of a reply Committed, 17 that of Applied.
+-- With `--tidy`, for each 64 replies that told of a commit or a delivery, of how much is known, or that something was refused, the
+-- floor is raised and then up to 64 states are collected; and again in the next turn where as many were. 8 is the first byte of a reply
+-- Committed, 17 that of Applied, 14 that of Stat, and 21 that of a refusal.
 abbrev pub upkeep_rule : Bool → Option UpkeepRule
 upkeep_rule false = None
 upkeep_rule true = Some record {
-  codes = 8 ∷ 17 ∷ [];
+  codes = 8 ∷ 17 ∷ 14 ∷ 21 ∷ [];
   after = 64;
   requests = request_spelling RaiseAuto ∷ request_spelling (Tidy 64) ∷ [];
   full = reply_spelling (Tidied 64);

@@ -26,8 +26,14 @@ const RAISE_AUTO: [u8; 1] = [request_codes::RAISE_AUTO];
 /// The request Tidy, for 64 states.
 const TIDY: [u8; 3] = [request_codes::TIDY, 0, 64];
 
-/// The first bytes of the replies that count: Committed and Applied.
-const COUNTED: [u8; 2] = [reply_codes::COMMITTED, reply_codes::APPLIED];
+/// The first bytes of the replies that count: Committed and Applied; Stat, which each exchange with a peer asks, so that what peers promised
+/// is used though nobody commits; and refusals, so that a site that is full looks again.
+const COUNTED: [u8; 4] = [
+    reply_codes::COMMITTED,
+    reply_codes::APPLIED,
+    reply_codes::STAT,
+    reply_codes::REFUSED,
+];
 
 /// The reply Tidied, of 64 states.
 const FULL: [u8; 5] = [reply_codes::TIDIED, 0, 0, 0, 64];
