@@ -11,8 +11,8 @@ use std::process::Abort;
 use tardis_base::{ByteList, NoMemory, ReplyBuf};
 use tardis_io::Failed;
 
-/// Replies to Stat that of the only site 3 states are known, and to everything else that it was applied. It owes that this is
-/// settled, and settles so often.
+/// Replies to Stat that of the only site 3 states are known, to what has three bytes that a peer is met, and to everything else that it
+/// was applied. It owes that this is settled, and settles so often.
 #[derive(Drop)]
 struct Owing {
     owed: bool,
@@ -25,13 +25,13 @@ impl Settling for Owing {
 
     ghost plain = { record {
       step = λ s e. true;
-      reply = λ s e. if length e.1 == 1 then 14 ∷ 0 ∷ 0 ∷ 0 ∷ 0 ∷ 0 ∷ 0 ∷ 0 ∷ 3 ∷ 0 ∷ 0 ∷ 0 ∷ 3 ∷ 0 ∷ 0 ∷ 0 ∷ 1 ∷ 0 ∷ 0 ∷ 1 ∷ 0 ∷ 0 ∷ 0 ∷ 3 ∷ 0 ∷ 0 ∷ 0 ∷ 0 ∷ 0 ∷ 0 ∷ 0 ∷ 0 ∷ 0 ∷ 0 ∷ [] else 17 ∷ [];
+      reply = λ s e. if length e.1 == 1 then 14 ∷ 0 ∷ 0 ∷ 0 ∷ 0 ∷ 0 ∷ 0 ∷ 0 ∷ 3 ∷ 0 ∷ 0 ∷ 0 ∷ 3 ∷ 0 ∷ 0 ∷ 0 ∷ 1 ∷ 0 ∷ 0 ∷ 1 ∷ 0 ∷ 0 ∷ 0 ∷ 3 ∷ 0 ∷ 0 ∷ 0 ∷ 0 ∷ 0 ∷ 0 ∷ 0 ∷ 0 ∷ 0 ∷ 0 ∷ [] else if length e.1 == 3 then 72 ∷ 0 ∷ [] else 17 ∷ [];
       is_sure = λ e. true;
     } };
 
     ghost through = { λ _. record {
       step = λ s e. true;
-      reply = λ s e. if length e.1 == 1 then 14 ∷ 0 ∷ 0 ∷ 0 ∷ 0 ∷ 0 ∷ 0 ∷ 0 ∷ 3 ∷ 0 ∷ 0 ∷ 0 ∷ 3 ∷ 0 ∷ 0 ∷ 0 ∷ 1 ∷ 0 ∷ 0 ∷ 1 ∷ 0 ∷ 0 ∷ 0 ∷ 3 ∷ 0 ∷ 0 ∷ 0 ∷ 0 ∷ 0 ∷ 0 ∷ 0 ∷ 0 ∷ 0 ∷ 0 ∷ [] else 17 ∷ [];
+      reply = λ s e. if length e.1 == 1 then 14 ∷ 0 ∷ 0 ∷ 0 ∷ 0 ∷ 0 ∷ 0 ∷ 0 ∷ 3 ∷ 0 ∷ 0 ∷ 0 ∷ 3 ∷ 0 ∷ 0 ∷ 0 ∷ 1 ∷ 0 ∷ 0 ∷ 1 ∷ 0 ∷ 0 ∷ 0 ∷ 3 ∷ 0 ∷ 0 ∷ 0 ∷ 0 ∷ 0 ∷ 0 ∷ 0 ∷ 0 ∷ 0 ∷ 0 ∷ [] else if length e.1 == 3 then 72 ∷ 0 ∷ [] else 17 ∷ [];
       is_sure = λ e. true;
     } };
 
@@ -52,6 +52,8 @@ impl Settling for Owing {
         out.clear();
         if request.len() == 1 {
             out.push(&STATISTICS);
+        } else if request.len() == 3 {
+            out.push(&[72, 0]);
         } else {
             out.push(&[17]);
         }
@@ -102,8 +104,8 @@ fn bytes_of(rt: &impl Abort, alloc: Global, bytes: &[u8]) -> ByteList {
     ByteList::from_vec(Vec::from_slice(alloc, bytes).expect(rt, "room"))
 }
 
-/// What an edge does by its letter: the time of peer 0 is told, its call comes through, it is over, it answers, or takes bytes; so is
-/// the time of peer 3, which isn't there; or a connection comes, asks, or is told.
+/// What an edge does by its letter: the time of peer 0 is told, its call comes through, it is over, it introduces itself, it answers, or
+/// takes bytes; so is the time of peer 3, which isn't there; or a connection comes, asks, or is told.
 fn move_of(rt: &impl Abort, alloc: Global, letter: u8, now: u64) -> Move {
     let peer = 0;
     match letter {
@@ -126,6 +128,11 @@ fn move_of(rt: &impl Abort, alloc: Global, letter: u8, now: u64) -> Move {
             peer,
             now,
             bytes: bytes_of(rt, alloc, &BATCH),
+        },
+        b'i' => Move::ReadPeer {
+            peer,
+            now,
+            bytes: bytes_of(rt, alloc, &[0, 0, 0, 2, 71, 7]),
         },
         b'w' => Move::WritePeer {
             peer,
@@ -152,6 +159,11 @@ fn letter_of(call: &Seen) -> Option<u8> {
         Seen::CalledPeer { peer: 0 } => Some(b'c'),
         Seen::ClosedPeer { peer: 0 } => Some(b'x'),
         Seen::ReadFromPeer { peer: 0, .. } => Some(b'r'),
+        Seen::WroteToPeer {
+            peer: 0,
+            offered: 5,
+            ..
+        } => Some(b'g'),
         Seen::WroteToPeer {
             peer: 0,
             offered: 10,
@@ -207,18 +219,18 @@ fn came_of(rt: &impl Abort, alloc: Global, letters: &[u8], settles: u8) -> (End,
 #[test]
 fn a_peer_is_fetched_from_beside_a_client(rt: HostRuntime) {
     let rows: [(&[u8], u8, End, u8, &[u8]); 7] = [
-        // an exchange: Stat and three items, and for their replies an upkeep of two requests
-        (b"tcwrt", 9, End::Stopped, 6, b"cwr"),
+        // a peer is met, and an exchange made: Stat and three items, and for their replies an upkeep of two requests
+        (b"tcwitwrt", 9, End::Stopped, 7, b"cgrwr"),
         // beside a client, whose reply counts as well; nothing is done for a peer that isn't there, nor where it has nothing to do
-        (b"+3rwtacwArtA", 9, End::Stopped, 7, b"+cawAr"),
+        (b"+3rwtacwitwArtA", 9, End::Stopped, 8, b"+cagrwAr"),
         // its call fails twice, which is told once, and it is called again after a second
         (b"totttotttt", 9, End::Stopped, 0, b"cx!cxc"),
-        // the question waits for the settling, and isn't written without
-        (b"tcwrt", 0, End::Unsettled, 1, b"c"),
-        (b"+atcwrt", 0, End::Unsettled, 2, b"+ac"),
+        // the question waits for the settling, and isn't written without; nor is the first one behind a client's request
+        (b"tcwitwrt", 0, End::Unsettled, 2, b"cgr"),
+        (b"+atcw", 0, End::Unsettled, 1, b"+ac"),
         // one settling serves the client and the peer
-        (b"+atcwA", 1, End::Stopped, 2, b"+acwA"),
-        (b"+atcAw", 1, End::Stopped, 2, b"+acAw"),
+        (b"+tcwitawA", 1, End::Stopped, 3, b"+cgrawA"),
+        (b"+tcwitaAw", 1, End::Stopped, 3, b"+cgraAw"),
     ];
     for (letters, settles, end, asked, seen) in rows {
         let (ended, came, calls) = came_of(&rt, rt.alloc(), letters, settles);
