@@ -75,7 +75,7 @@ class Server:
                                         stdout=subprocess.DEVNULL, stderr=subprocess.PIPE, text=True)
         self.began = count = len(self.lines)
         threading.Thread(target=self.read, args=(self.process.stderr,), daemon=True).start()
-        until(lambda: len(self.lines) > count or self.process.poll() is not None, of="a server")
+        until(lambda: len(self.lines) > count or self.process.poll() is not None, 120, "a server")
         assert " listens " in self.lines[count], self.lines[count:]
 
     def read(self, stream):
