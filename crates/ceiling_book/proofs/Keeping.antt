@@ -33,13 +33,13 @@ use Rattle.ceiling_book.proofs.Entries.{mapped, entry-mapped, entry-found, inser
 
 -- ===== Limits
 
-pub few-sessions : (l : Limits) → IsTrue (are_limits l) → l.max_sessions ≤ 256
+pub few-sessions : (l : Limits) → IsTrue (are_limits l) → l.max_sessions ≤ 4096
 few-sessions l h =
-    let a = is_within 1 16 l.sites && is_within 1 16384 l.max_kept && is_within 1 4096 l.max_path in
-    let d = is_within 1 256 l.max_sessions in
+    let a = is_within 1 16 l.sites && is_within 1 65000 l.max_kept && is_within 1 4096 l.max_path in
+    let d = is_within 1 4096 l.max_sessions in
     let first = and_parts (a && d) (nat_le l.max_trail 1073741824) h in
     let second = and_parts a d first.0 in
-    leb-true l.max_sessions 256 (and_parts (nat_le 1 l.max_sessions) (nat_le l.max_sessions 256) second.1).1
+    leb-true l.max_sessions 4096 (and_parts (nat_le 1 l.max_sessions) (nat_le l.max_sessions 4096) second.1).1
 
 -- ===== Sessions
 

@@ -7,3 +7,4 @@ pub mod TileLists
 pub mod TileViews
 pub mod TileMerges
 pub mod TilePaths
+pub mod TileChecks

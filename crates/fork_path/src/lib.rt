@@ -6,11 +6,12 @@ ghost use Rattle.std.specs.Prelude.{slice_index_or, vec_len, vec_capacity, if◌
 ghost use Rattle.fork_path.specs.Pairs.{are_ascending_pairs, is_same_pair, has_pair, has_pairs, with_pair, without_pairs_of, groups_of};
 ghost use Rattle.fork_path.specs.Tiles.{keys_of, some_holds};
 
+mod images;
 mod tile_lists;
 mod tiles;
 
 use crate::tile_lists::{count_of, drop_fork, merged, put_tile, tile_near, with_spare};
-use crate::tiles::Tile;
+pub use crate::tiles::Tile;
 use std::alloc::Global;
 use std::marker::Model;
 use tardis_base::NoMemory;

@@ -10,7 +10,7 @@ const FORKS: u32 = 32;
 /// How many branches of each fork it has bits for.
 const BRANCHES: u32 = 2;
 
-/// Pairs of 32 forks in a row, and of two branches in a row.
+/// Pairs of 32 forks in a row, and of two branches in a row, as `ForkPath::tiles` lends them.
 #[derive(Clone, Copy, PartialEq, Eq)]
 pub struct Tile {
     /// The numbers of its forks, divided by 32.
@@ -23,7 +23,7 @@ pub struct Tile {
 
 impl Tile {
     /// The tile of one pair.
-    pub fn of(fork: u32, branch: u32) -> Tile
+    pub(crate) fn of(fork: u32, branch: u32) -> Tile
         ensures { (p : ℕ × ℕ) → holds result p ≡ is_same_pair p (fork, branch) }
     {
         Tile {
@@ -34,7 +34,7 @@ impl Tile {
     }
 
     /// A tile of no pairs in the place of this one.
-    pub fn cleared(self) -> Tile
+    pub(crate) fn cleared(self) -> Tile
         ensures key { key_of result ≡ key_of self }
         ensures pairs { (p : ℕ × ℕ) → holds result p ≡ false }
     {
@@ -42,7 +42,7 @@ impl Tile {
     }
 
     /// Whether no pair is left.
-    pub fn is_empty(self) -> bool
+    pub(crate) fn is_empty(self) -> bool
         ensures bits { result ≡ (self.bits == 0) }
         ensures some { result ≡ false → HoldsPair self }
     {
@@ -50,21 +50,21 @@ impl Tile {
     }
 
     /// Whether it stands before another.
-    pub fn is_before(self, other: Tile) -> bool
+    pub(crate) fn is_before(self, other: Tile) -> bool
         ensures { result ≡ is_pair_before (key_of self) (key_of other) }
     {
         self.forks < other.forks || self.forks == other.forks && self.branches < other.branches
     }
 
     /// Whether they have bits for the same pairs.
-    pub fn is_beside(self, other: Tile) -> bool
+    pub(crate) fn is_beside(self, other: Tile) -> bool
         ensures { result ≡ is_same_pair (key_of self) (key_of other) }
     {
         self.forks == other.forks && self.branches == other.branches
     }
 
     /// Whether every pair is one of the other tile, which has bits for the same pairs.
-    pub fn is_within(self, other: Tile) -> bool
+    pub(crate) fn is_within(self, other: Tile) -> bool
         requires { key_of self ≡ key_of other }
         ensures inside { result ≡ true → (p : ℕ × ℕ) → holds self p ≡ true → holds other p ≡ true }
         ensures outside { result ≡ false → (p : ℕ × ℕ) × (holds self p ≡ true) × (holds other p ≡ false) }
@@ -73,7 +73,7 @@ impl Tile {
     }
 
     /// The pairs of this tile and of another, which has bits for the same pairs.
-    pub fn joined(self, other: Tile) -> Tile
+    pub(crate) fn joined(self, other: Tile) -> Tile
         requires { key_of self ≡ key_of other }
         ensures key { key_of result ≡ key_of self }
         ensures pairs { (p : ℕ × ℕ) → holds result p ≡ (holds self p || holds other p) }
@@ -85,7 +85,7 @@ impl Tile {
     }
 
     /// The pairs of the other forks.
-    pub fn without(self, fork: u32) -> Tile
+    pub(crate) fn without(self, fork: u32) -> Tile
         ensures key { key_of result ≡ key_of self }
         ensures pairs { (p : ℕ × ℕ) → holds result p ≡ (not (p.0 == fork) && holds self p) }
     {

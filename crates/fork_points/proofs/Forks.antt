@@ -49,7 +49,7 @@ fork-is_last rs dag y ys x fork =
     ])
 
 module _ (table : Table) (rs : List Record) (ks : List StateId) (stands : Stands table rs ks) where
-  few-kept : (p : StateId → Bool) → length (filter p (kept_states rs ks)) ≤ 16384
+  few-kept : (p : StateId → Bool) → length (filter p (kept_states rs ks)) ≤ 65000
   few-kept p =
       let few = few-pass p (kept_states rs ks) in
       let within = stands.within in
@@ -74,12 +74,12 @@ module _ (table : Table) (rs : List Record) (ks : List StateId) (stands : Stands
   none-named [] (y ∷ ys) none are = absurd (let bad : ⊥ = cc in bad)
   none-named (s ∷ ss) (y ∷ ys) none are = absurd (let n = eqb-true (length (s ∷ ss)) 0 none in omega arith)
 
-  pub few-forks : (ss : List Slot) (xs : List StateId) → map (id_at table) ss ≡ map (λ z. Some z) xs → length (fork_points rs xs) ≤ 16384
-  few-forks ss xs are = subst (λ zs. length zs ≤ 16384) (among-kept table rs ks stands (is_fork_point rs xs)
+  pub few-forks : (ss : List Slot) (xs : List StateId) → map (id_at table) ss ≡ map (λ z. Some z) xs → length (fork_points rs xs) ≤ 65000
+  few-forks ss xs are = subst (λ zs. length zs ≤ 65000) (among-kept table rs ks stands (is_fork_point rs xs)
       (fork-point-is_kept table rs ks stands ss xs are)) (few-kept (is_fork_point rs xs))
 
-  pub few-leaves : length (leaves rs) ≤ 16384
-  few-leaves = subst (λ zs. length zs ≤ 16384) (among-kept table rs ks stands (is_leaf rs) (leaf-is_kept table rs ks stands)) (few-kept (is_leaf rs))
+  pub few-leaves : length (leaves rs) ≤ 65000
+  few-leaves = subst (λ zs. length zs ≤ 65000) (among-kept table rs ks stands (is_leaf rs) (leaf-is_kept table rs ks stands)) (few-kept (is_leaf rs))
 
 -- those of no states are the leaves
 pub forks-of_none : (rs : List Record) → leaves rs ≡ fork_points rs []

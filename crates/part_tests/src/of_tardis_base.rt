@@ -96,9 +96,11 @@ fn sizes_are_as_they_are_told(rt: HostRuntime) {
         (MAX_NAMED as u64, 256),
         (MAX_WAITING as u64, 256),
         (u64::from(MAX_SITES), 16),
-        (u64::from(MAX_KEPT), 16_384),
+        (u64::from(MAX_KEPT), 65_000),
+        (u64::from(USUAL_KEPT), 16_384),
         (u64::from(MAX_PATH), 4_096),
-        (u64::from(MAX_SESSIONS), 256),
+        (u64::from(MAX_SESSIONS), 4_096),
+        (u64::from(USUAL_SESSIONS), 256),
         (MAX_TRAIL, 1_073_741_824),
     ] {
         assert_eq!(rt; size, told);

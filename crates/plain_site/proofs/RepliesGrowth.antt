@@ -35,7 +35,7 @@ pairs-from x from (suc n) h l =
 
 -- no state has more children than this
 abbrev pub HaveFewChildren : List Record → Type 0
-HaveFewChildren rs = (x : StateId) → length (children rs x) ≤ 16385
+HaveFewChildren rs = (x : StateId) → length (children rs x) ≤ 65001
 
 branches-of-are-pairs : (rs : List Record) (x : StateId) → HaveFewChildren rs → IsTrue (is_id x) → IsTrue (list_all is_pair (branches_of rs x))
 branches-of-are-pairs rs x few h = let l = few x in pairs-from x 0 (length (children rs x)) h (omega arith)
@@ -47,7 +47,7 @@ all-branches rs (x ∷ xs) few h =
     all-append is_pair (branches_of rs x) (flat_map (branches_of rs) xs)
     (branches-of-are-pairs rs x few (first (is_id x) (list_all is_id xs) h)) (all-branches rs xs few (second (is_id x) (list_all is_id xs) h))
 
-number-of-branches : (rs : List Record) (xs : List StateId) → HaveFewChildren rs → length (flat_map (branches_of rs) xs) ≤ 16385 * length xs
+number-of-branches : (rs : List Record) (xs : List StateId) → HaveFewChildren rs → length (flat_map (branches_of rs) xs) ≤ 65001 * length xs
 number-of-branches rs [] few = omega arith
 number-of-branches rs (x ∷ xs) few =
     let l = length-append (branches_of rs x) (flat_map (branches_of rs) xs) in
@@ -65,7 +65,7 @@ path-is-valid rs ks x few h =
     all-filter is_pair (leads_to rs x) (branches rs ks)
     (all-branches rs (filter (is_fork rs) (kept_states rs ks)) few (all-filter is_id (is_fork rs) (kept_states rs ks) (kept-are-ids rs ks h)))
 
-path-is-short : (rs : List Record) (ks : List StateId) (x : StateId) → HaveFewChildren rs → length (kept_states rs ks) ≤ 16385 → length (fork_path rs ks x)
+path-is-short : (rs : List Record) (ks : List StateId) (x : StateId) → HaveFewChildren rs → length (kept_states rs ks) ≤ 65001 → length (fork_path rs ks x)
     < 2 ^ 32
 path-is-short rs ks x few kept =
     let a = length-of-filter (leads_to rs x) (branches rs ks) in
@@ -102,11 +102,11 @@ filter-grows p (x ∷ xs) y =
 -- what keeps the refusals of growth in their ranges
 pub record GrowsInRange (rs : List Record) (ks : List StateId) (limits : Limits) (r : Record) : Type 0 where
   pub stored : IsTrue (list_all is_stored (r ∷ rs))
-  pub few_children : (x : StateId) → length (children rs x) ≤ 16384
-  pub few_kept : length (kept_states rs ks) ≤ 16384
+  pub few_children : (x : StateId) → length (children rs x) ≤ 65000
+  pub few_kept : length (kept_states rs ks) ≤ 65000
 
 long-path-is-valid : (rs : List Record) (ks : List StateId) (most : ℕ) (p : StateId × ℕ) → IsTrue (list_all is_stored rs) → HaveFewChildren rs →
-    length (kept_states rs ks) ≤ 16385 → long_path rs ks most ≡ Some p → IsTrue (is_id p.0 && is_u32 p.1)
+    length (kept_states rs ks) ≤ 65001 → long_path rs ks most ≡ Some p → IsTrue (is_id p.0 && is_u32 p.1)
 long-path-is-valid rs ks most p h few kept e = go (find (λ x. nat_lt most (length (fork_path rs ks x))) (kept_states rs ks)) refl e
   where
     go : (o : Option StateId) → find (λ x. nat_lt most (length (fork_path rs ks x))) (kept_states rs ks) ≡ o →
@@ -137,6 +137,6 @@ growth-refusal-is-valid limits ks rs r f g e = elim (cases_Bool (length (kept_st
     by-pair : (o : Option (StateId × ℕ)) → long_path (r ∷ rs) ks limits.max_path ≡ o → option_map (λ p. PathFull p.0 p.1) o ≡ Some f → IsTrue (is_refusal f)
     by-pair None is e = absurd (none-some f e)
     by-pair (Some p) is e =
-        let kept : length (kept_states (r ∷ rs) ks) ≤ 16385 = omega (arith, g.few_kept, filter-grows (λ x. not (is_among x ks)) (arrived rs) r.id) in
+        let kept : length (kept_states (r ∷ rs) ks) ≤ 65001 = omega (arith, g.few_kept, filter-grows (λ x. not (is_among x ks)) (arrived rs) r.id) in
         let few : HaveFewChildren (r ∷ rs) = λ x. omega (arith, g.few_children x, children-grow rs r x) in
         subst (λ q. IsTrue (is_refusal q)) (same_Some (PathFull p.0 p.1) f e) (long-path-is-valid (r ∷ rs) ks limits.max_path p g.stored few kept is)

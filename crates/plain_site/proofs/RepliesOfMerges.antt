@@ -55,7 +55,7 @@ use Rattle.plain_site.proofs.RepliesOfShows.{page-fits, leaves-are-few, leaves-a
 record AreStates (xs : List StateId) : Type 0 where
   ids : IsTrue (list_all is_id xs)
   some : 1 ≤ length xs
-  few : length xs ≤ 16384
+  few : length xs ≤ 65000
 
 pair-is-valid : (rs : List Record) (xs : List StateId) (p : StateId × StateId) → IsTrue (list_all is_id xs) → comparable_pair rs xs ≡ Some p →
     IsTrue (is_id p.0 && is_id p.1)

@@ -61,7 +61,7 @@ module _ (rs : List Record) (floors : List Floor) (ks : List StateId) (collected
   few-leaves stored = fewer-pass is_id (is_leaf rs) (λ x. not (is_among x ks)) (arrived rs) (arrived-are-ids rs stored)
       (λ x id leaf. leaf-is-uncollected x leaf)
 
-pub leaves-are-few : (site : Site) → IsSound site → IsRanged site → length (leaves site.dag) ≤ 16384
+pub leaves-are-few : (site : Site) → IsSound site → IsRanged site → length (leaves site.dag) ≤ 65000
 leaves-are-few site sound ranged = omega (arith, few-leaves site.dag site.floors site.collected sound.collected ranged.stored, ranged.few_kept)
 
 pub leaves-are-ids : (site : Site) → IsRanged site → IsTrue (list_all is_id (leaves site.dag))
@@ -129,7 +129,7 @@ shown-fits site x ranged few_pairs =
     let cs : List StateId = children site.dag x in
     let path : List (StateId × ℕ) = fork_path site.dag site.collected x in
     let fits : number < 2 ^ 64 = omega (arith, arrival-bound site.dag x, ranged.history) in
-    let few_children : length cs ≤ 16384 = ranged.few_children x in
+    let few_children : length cs ≤ 65000 = ranged.few_children x in
     let few : length cs < 2 ^ 32 = omega arith in
     let short : length path < 2 ^ 32 = omega arith in
     record {

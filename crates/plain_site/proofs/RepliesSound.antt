@@ -23,25 +23,25 @@ use Rattle.plain_site.proofs.RepliesHistory.{is_stored, dag-stored, known-is-id,
 
 pub record AreWithin (l : Limits) : Type 0 where
   pub sites : (1 ≤ l.sites) × (l.sites ≤ 16)
-  pub kept : l.max_kept ≤ 16384
+  pub kept : l.max_kept ≤ 65000
   pub path : l.max_path ≤ 4096
-  pub sessions : l.max_sessions ≤ 256
+  pub sessions : l.max_sessions ≤ 4096
 
 within-parts : (least most n : ℕ) → IsTrue (is_within least most n) → (least ≤ n) × (n ≤ most)
 within-parts least most n h = let p = and_parts (nat_le least n) (nat_le n most) h in (leb-true least n p.0, leb-true n most p.1)
 
 pub limits-within : (l : Limits) → IsTrue (are_limits l) → AreWithin l
 limits-within l h =
-    let a = and_parts (is_within 1 16 l.sites && is_within 1 16384 l.max_kept && is_within 1 4096 l.max_path && is_within 1 256 l.max_sessions)
+    let a = and_parts (is_within 1 16 l.sites && is_within 1 65000 l.max_kept && is_within 1 4096 l.max_path && is_within 1 4096 l.max_sessions)
     (nat_le l.max_trail 1073741824) h in
-    let b = and_parts (is_within 1 16 l.sites && is_within 1 16384 l.max_kept && is_within 1 4096 l.max_path) (is_within 1 256 l.max_sessions) a.0 in
-    let c = and_parts (is_within 1 16 l.sites && is_within 1 16384 l.max_kept) (is_within 1 4096 l.max_path) b.0 in
-    let d = and_parts (is_within 1 16 l.sites) (is_within 1 16384 l.max_kept) c.0 in
+    let b = and_parts (is_within 1 16 l.sites && is_within 1 65000 l.max_kept && is_within 1 4096 l.max_path) (is_within 1 4096 l.max_sessions) a.0 in
+    let c = and_parts (is_within 1 16 l.sites && is_within 1 65000 l.max_kept) (is_within 1 4096 l.max_path) b.0 in
+    let d = and_parts (is_within 1 16 l.sites) (is_within 1 65000 l.max_kept) c.0 in
     record {
       sites = within-parts 1 16 l.sites d.0;
-      kept = (within-parts 1 16384 l.max_kept d.1).1;
+      kept = (within-parts 1 65000 l.max_kept d.1).1;
       path = (within-parts 1 4096 l.max_path c.1).1;
-      sessions = (within-parts 1 256 l.max_sessions b.1).1;
+      sessions = (within-parts 1 4096 l.max_sessions b.1).1;
     }
 
 -- ===== Floors
@@ -96,9 +96,9 @@ pub record IsRanged (site : Site) : Type 0 where
   pub stored : IsTrue (list_all is_stored site.dag)
   pub counts : (n : ℕ) → count_of_site site.dag n < 2 ^ 32
   pub history : length site.dag < 2 ^ 64
-  pub few_kept : length (kept_states site.dag site.collected) ≤ 16384
-  pub few_children : (x : StateId) → length (children site.dag x) ≤ 16384
-  pub few_sessions : length site.sessions ≤ 256
+  pub few_kept : length (kept_states site.dag site.collected) ≤ 65000
+  pub few_children : (x : StateId) → length (children site.dag x) ≤ 65000
+  pub few_sessions : length site.sessions ≤ 4096
   pub floors : IsTrue (list_all is_ranged_floor site.floors)
   pub sessions : (n : ℕ) (s : Session) → entry_of n site.sessions ≡ Some s → IsOpen site.dag s
 

@@ -19,9 +19,9 @@ pub record AreLimitsOf (l : Limits) : Type 0 where
 pub limits-parts : (l : Limits) → IsTrue (are_limits l) → AreLimitsOf l
 limits-parts l h =
     let sites = is_within 1 16 l.sites in
-    let kept = is_within 1 16384 l.max_kept in
+    let kept = is_within 1 65000 l.max_kept in
     let path = is_within 1 4096 l.max_path in
-    let sessions = is_within 1 256 l.max_sessions in
+    let sessions = is_within 1 4096 l.max_sessions in
     let trail = nat_le l.max_trail 1073741824 in
     let most = and_parts (sites && kept && path && sessions) trail h in
     let more = and_parts (sites && kept && path) sessions most.0 in
@@ -29,7 +29,7 @@ limits-parts l h =
     let both = and_parts sites kept first.0 in
     record {
       sites = leb-true l.sites 16 (and_parts (nat_le 1 l.sites) (nat_le l.sites 16) both.0).1;
-      kept = leb-true 1 l.max_kept (and_parts (nat_le 1 l.max_kept) (nat_le l.max_kept 16384) both.1).0;
+      kept = leb-true 1 l.max_kept (and_parts (nat_le 1 l.max_kept) (nat_le l.max_kept 65000) both.1).0;
     }
 
 floors-open : (n m : ℕ) → IsTrue (are_sound_floors (root_record ∷ []) n (replicate m opening_floor))

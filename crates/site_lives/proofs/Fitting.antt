@@ -207,9 +207,9 @@ life-fits own sites lives new within ordered (inr meets) =
 small-number : (limits : Limits) (own : ℕ) → IsTrue (are_limits limits) → IsTrue (is_within 1 limits.sites own) → IsTrue (is_u16 own)
 small-number limits own valid within =
     let a : Bool = is_within 1 16 limits.sites in
-    let b : Bool = is_within 1 16384 limits.max_kept in
+    let b : Bool = is_within 1 65000 limits.max_kept in
     let c : Bool = is_within 1 4096 limits.max_path in
-    let d : Bool = is_within 1 256 limits.max_sessions in
+    let d : Bool = is_within 1 4096 limits.max_sessions in
     let e : Bool = nat_le limits.max_trail 1073741824 in
     let sites = (and_parts a b (and_parts (a && b) c (and_parts (a && b && c) d (and_parts (a && b && c && d) e valid).0).0).0).0 in
     let most = leb-true limits.sites 16 (and_parts (nat_le 1 limits.sites) (nat_le limits.sites 16) sites).1 in

@@ -245,24 +245,24 @@ pub record AreLimits (l : Limits) : Type 0 where
   pub some_sites : 1 ≤ l.sites
   pub sites : l.sites ≤ 16
   pub some_kept : 1 ≤ l.max_kept
-  pub kept : l.max_kept ≤ 16384
+  pub kept : l.max_kept ≤ 65000
 
 pub limits-parts : (l : Limits) → IsTrue (are_limits l) → AreLimits l
 limits-parts l h =
     let a = is_within 1 16 l.sites in
-    let b = is_within 1 16384 l.max_kept in
+    let b = is_within 1 65000 l.max_kept in
     let c = is_within 1 4096 l.max_path in
-    let d = is_within 1 256 l.max_sessions in
+    let d = is_within 1 4096 l.max_sessions in
     let first = and_parts (a && b && c && d) (nat_le l.max_trail 1073741824) h in
     let second = and_parts (a && b && c) d first.0 in
     let third = and_parts (a && b) c second.0 in
     let fourth = and_parts a b third.0 in
     let sites = and_parts (nat_le 1 l.sites) (nat_le l.sites 16) fourth.0 in
-    let kept = and_parts (nat_le 1 l.max_kept) (nat_le l.max_kept 16384) fourth.1 in
+    let kept = and_parts (nat_le 1 l.max_kept) (nat_le l.max_kept 65000) fourth.1 in
     record {
       some_sites = leb-true 1 l.sites sites.0;
       sites = leb-true l.sites 16 sites.1;
       some_kept = leb-true 1 l.max_kept kept.0;
       kept =
-          leb-true l.max_kept 16384 kept.1;
+          leb-true l.max_kept 65000 kept.1;
     }

@@ -1,6 +1,6 @@
 -- How much one thing may hold.
 use Rattle.std.specs.Prelude.{ℕ}
-use Rattle.tardis_base.specs.declared.sizes.TheConstants.{MAX_KEY, MAX_VALUE, MAX_WRITES, MAX_READS, MAX_PARENTS, MAX_FRAME, MAX_FRAMED, MAX_REQUEST, PIECE, MAX_NEWS, MAX_NAMED, MAX_WAITING, MAX_SITES, MAX_KEPT, MAX_PATH, MAX_SESSIONS, MAX_TRAIL}
+use Rattle.tardis_base.specs.declared.sizes.TheConstants.{MAX_KEY, MAX_VALUE, MAX_WRITES, MAX_READS, MAX_PARENTS, MAX_FRAME, MAX_FRAMED, MAX_REQUEST, PIECE, MAX_NEWS, MAX_NAMED, MAX_WAITING, MAX_SITES, MAX_KEPT, MAX_PATH, MAX_SESSIONS, MAX_TRAIL, USUAL_KEPT, USUAL_SESSIONS}
 
 -- the most bytes of a key
 abbrev pub longest_key : ℕ
@@ -58,6 +58,10 @@ most_sites = MAX_SITES
 abbrev pub most_kept : ℕ
 most_kept = MAX_KEPT
 
+-- the most states that a program's site keeps, where nothing else is said
+abbrev pub usual_kept : ℕ
+usual_kept = USUAL_KEPT
+
 -- the most pairs of a fork path
 abbrev pub most_pairs : ℕ
 most_pairs = MAX_PATH
@@ -65,6 +69,10 @@ most_pairs = MAX_PATH
 -- the most sessions that may be open at once
 abbrev pub most_sessions : ℕ
 most_sessions = MAX_SESSIONS
+
+-- the most sessions that may be open at once at a program's site, where nothing else is said
+abbrev pub usual_sessions : ℕ
+usual_sessions = USUAL_SESSIONS
 
 -- the most bytes of a trail: 1 GiB
 abbrev pub longest_trail : ℕ

@@ -40,14 +40,20 @@ pub const MAX_WAITING: usize = 256;
 /// The most sites that may have states.
 pub const MAX_SITES: u16 = 16;
 
-/// The most states that a site may keep.
-pub const MAX_KEPT: u32 = 16_384;
+/// The most states that a site may keep. (One more, squared, has to fit 32 bits: so many pairs a fork path may come to.)
+pub const MAX_KEPT: u32 = 65_000;
+
+/// The most states that a program's site keeps, where nothing else is said.
+pub const USUAL_KEPT: u32 = 16_384;
 
 /// The most pairs of a fork path.
 pub const MAX_PATH: u32 = 4_096;
 
 /// The most sessions that may be open at once.
-pub const MAX_SESSIONS: u16 = 256;
+pub const MAX_SESSIONS: u16 = 4_096;
+
+/// The most sessions that may be open at once at a program's site, where nothing else is said.
+pub const USUAL_SESSIONS: u16 = 256;
 
 /// The most bytes of a trail: 1 GiB.
 pub const MAX_TRAIL: u64 = 1_073_741_824;

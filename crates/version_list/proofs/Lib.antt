@@ -8,3 +8,4 @@ pub mod Promotes
 pub mod Handed
 pub mod Chunks
 pub mod Moves
+pub mod Noting

@@ -194,7 +194,7 @@ impl KeyLists {
     }
 
     /// Makes room for one more version of the key, which is listed then.
-    fn make_room_for(&mut self, key: &Key) -> Result<(), NoMemory>
+    pub(crate) fn make_room_for(&mut self, key: &Key) -> Result<(), NoMemory>
         ensures room { OnOk result (IsTrue (has_room_in self.new key.now)) }
         ensures listed { OnOk result (keys_in self.new ≡ with_listed key.now (keys_in self.old)) }
         ensures not_listed { OnErr result (keys_in self.new ≡ keys_in self.old) }
@@ -220,7 +220,7 @@ impl KeyLists {
     }
 
     /// Puts the version at the end of the key's list.
-    fn add_version(&mut self, key: &Key, version: Version)
+    pub(crate) fn add_version(&mut self, key: &Key, version: Version)
         requires { IsTrue (has_room_in self.old key.now) }
         ensures added { versions_in self.new key.now ≡ versions_in self.old key.now ++ version ∷ [] }
         ensures others { (k : List ℕ) → bytes_eq key.now k ≡ false → listed_in self.new k ≡ listed_in self.old k }

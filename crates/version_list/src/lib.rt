@@ -2,6 +2,7 @@
 #![tactic(auto)]
 
 mod histories;
+mod images;
 mod notes;
 mod version_lists;
 

@@ -1,6 +1,6 @@
 //! The keys with a version at each state, in chunks that are handed on as they are.
 
-ghost use Rattle.std.specs.Prelude.{◌≡◌, ◌==◌, ℕ, List, ◌+◌, ◌^◌, ◌<◌, ◌≤◌, ◌||◌, not, [], ◌∷◌, ◌++◌, cond, length, take, drop, Some, IsTrue, OnOk};
+ghost use Rattle.std.specs.Prelude.{◌≡◌, ◌==◌, ℕ, List, ◌+◌, ◌^◌, ◌<◌, ◌≤◌, ◌||◌, ◌&&◌, not, [], ◌∷◌, ◌++◌, cond, length, take, drop, Some, IsTrue, IfOk, OnOk, OnErr, bytes_eq};
 ghost use Rattle.std.specs.List.{list_any};
 ghost use Rattle.std.specs.Map.{lookup};
 ghost use Rattle.tardis_base.specs.declared.ids.Slot.{Slot};
@@ -11,7 +11,7 @@ use std::alloc::Global;
 use std::collections::LinkedList;
 use std::marker::Model;
 use std::mem;
-use tardis_base::{KeyList, NoMemory, Slot};
+use tardis_base::{Key, KeyList, NoMemory, Slot};
 
 /// Keys, as each state brought its own. A key stands in one chunk, and no chunk is without keys.
 pub type KeyChunks = LinkedList<KeyList>;
@@ -118,6 +118,84 @@ impl Notes {
         }
     }
 
+    /// Notes the state of this slot, were it with no key.
+    pub(crate) fn note(&mut self, slot: Slot) -> Result<(), NoMemory>
+        ensures noted { OnOk result ((q : Slot) → is_noted_in q self.new.by_slot ≡ (same_slot slot q || is_noted_in q self.old.by_slot)) }
+        ensures not_noted { OnErr result (self.new.by_slot ≡ self.old.by_slot) }
+        ensures same { (q : Slot) → chunks_for q self.new.by_slot ≡ chunks_for q self.old.by_slot }
+    {
+        self.reserve_slot()?;
+        self.put_none_once(slot);
+        Ok(())
+    }
+
+    /// Notes the state of this slot, were it with no key, unless it is noted. It takes no memory.
+    fn put_none_once(&mut self, slot: Slot)
+        requires { 0 < self.old.states }
+        ensures noted { (q : Slot) → is_noted_in q self.new.by_slot ≡ (same_slot slot q || is_noted_in q self.old.by_slot) }
+        ensures same { (q : Slot) → chunks_for q self.new.by_slot ≡ chunks_for q self.old.by_slot }
+    {
+        if self.is_noted(slot) {
+            return;
+        }
+        self.put_none(slot);
+    }
+
+    /// Makes room for one more state.
+    fn reserve_slot(&mut self) -> Result<(), NoMemory>
+        ensures same { self.new.by_slot ≡ self.old.by_slot }
+        ensures states { OnOk result (0 < self.new.states) }
+    {
+        self.chunks.reserve(1)?;
+        Ok(())
+    }
+
+    /// Whether something was noted for the state.
+    fn is_noted(&self, slot: Slot) -> bool
+        ensures { result ≡ is_noted_in slot self.now.by_slot }
+    {
+        self.chunks.contains_key(&slot)
+    }
+
+    /// Notes no key for the state. It takes no memory.
+    fn put_none(&mut self, slot: Slot)
+        requires { 0 < self.old.states }
+        ensures { (q : Slot) → lookup (same_slot q) self.new.by_slot ≡ cond (same_slot slot q) (Some []) (lookup (same_slot q) self.old.by_slot) }
+    {
+        let none = LinkedList::new(*self.none.allocator());
+        match self.chunks.insert(slot, none) {
+            Ok(_) => {},
+            Err(_) => unreachable!(),
+        }
+    }
+
+    /// Notes the key for the state of this slot, beside those that are noted there.
+    pub(crate) fn note_key(&mut self, slot: Slot, key: Key) -> Result<(), NoMemory>
+        ensures noted { OnOk result ((q : Slot) → is_noted_in q self.new.by_slot ≡ (same_slot slot q || is_noted_in q self.old.by_slot)) }
+        ensures keys { OnOk result ((q : Slot) (k : List ℕ) → is_key_in k (chunks_for q self.new.by_slot)
+            ≡ (is_key_in k (chunks_for q self.old.by_slot) || same_slot slot q && bytes_eq k key)) }
+    {
+        self.note(slot)?;
+        let chunks = self.take(slot);
+        let more = with_key(chunks, key)?;
+        self.count_chunk()?;
+        self.give(slot, more);
+        Ok(())
+    }
+
+    /// Counts one more chunk that was made.
+    fn count_chunk(&mut self) -> Result<(), NoMemory>
+        ensures same { self.new.by_slot ≡ self.old.by_slot }
+        ensures chunks { self.new.chunks ≡ self.old.chunks }
+        ensures made { OnOk result (self.new.made ≡ self.old.made + 1) }
+    {
+        if self.made >= MOST {
+            return Err(NoMemory);
+        }
+        self.made += 1;
+        Ok(())
+    }
+
     /// Puts these chunks behind those of the state. It takes no memory, and constant time.
     pub(crate) fn give(&mut self, slot: Slot, mut chunks: KeyChunks)
         requires noted { IsTrue (is_noted_in slot self.old.by_slot) }
@@ -147,6 +225,29 @@ fn filled(mut chunk: KeyChunks, keys: KeyList) -> KeyChunks
     }
     set_first(&mut chunk, keys);
     chunk
+}
+
+/// The chunks with the key in the first of them, or in one of its own where there is none.
+fn with_key(mut chunks: KeyChunks, key: Key) -> Result<KeyChunks, NoMemory>
+    requires { IsTrue (are_full chunks) }
+    ensures keys { IfOk result (λ more. (k : List ℕ) → is_key_in k more ≡ (is_key_in k chunks || bytes_eq k key)) }
+    ensures count { IfOk result (λ more. length more ≤ length chunks + 1) }
+    ensures full { IfOk result (λ more. IsTrue (are_full more)) }
+{
+    let first = match chunks.pop_front() {
+        Some(first) => first,
+        None => KeyList::new(*chunks.allocator()),
+    };
+    in_front(chunks, first, key)
+}
+
+/// These chunks behind the first one with the key.
+fn in_front(mut rest: KeyChunks, mut first: KeyList, key: Key) -> Result<KeyChunks, NoMemory>
+    ensures { IfOk result (λ chunks. chunks ≡ (first ++ key ∷ []) ∷ rest) }
+{
+    first.push(key)?;
+    rest.push_front(first)?;
+    Ok(rest)
 }
 
 /// Puts these keys into the first of the chunks.

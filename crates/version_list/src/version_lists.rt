@@ -21,11 +21,11 @@ use tardis_base::{Above, Found, Key, KeyList, NoMemory, Slot, StateId, Write, Wr
 /// Keys are found by hashing with a seed that `new` is given, so that whoever chooses keys can't tell which of them collide.
 #[derive(Drop)]
 pub struct VersionList {
-    lists: KeyLists,
+    pub(crate) lists: KeyLists,
     /// The keys with a version at each state.
-    notes: Notes,
+    pub(crate) notes: Notes,
     /// Room for the keys of the next state.
-    next: Vec<Key>,
+    pub(crate) next: Vec<Key>,
 }
 
 impl Model for VersionList {

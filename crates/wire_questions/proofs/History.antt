@@ -157,7 +157,7 @@ record-fits site x sound ranged =
     let keys : List (List ℕ) = keys_written site.dag x in
     let fits : number < 2 ^ 64 = omega (arith, arrival-bound site.dag x, ranged.history) in
     let few_parents = few-parents site.dag sound.dag x in
-    let few : length kept_children ≤ 16384 =
+    let few : length kept_children ≤ 65000 =
     omega (arith, length-of-filter (is_kept site.dag site.collected) (children site.dag x), ranged.few_children x) in
     let short : length kept_children < 2 ^ 32 = omega (arith, few) in
     answer-fits (record_told site x) few

@@ -120,11 +120,11 @@ denial-length (ForkPoints number) = omega arith
 
 -- no more children are told than a site may keep states
 abbrev pub HasFewChildren : Answered → Type 0
-HasFewChildren (TheRecord arrival parents kept_parents kept_children keys) = length kept_children ≤ 16384
+HasFewChildren (TheRecord arrival parents kept_parents kept_children keys) = length kept_children ≤ 65000
 HasFewChildren _ = Unit {0}
 
 record-length : (arrival : ℕ) (parents kept_parents kept_children : List StateId) (keys : List (List ℕ)) → IsTrue (are_few parents) → IsTrue (are_few kept_parents)
-    → length kept_children ≤ 16384 → IsTrue (are_written keys)
+    → length kept_children ≤ 65000 → IsTrue (are_written keys)
     → length (answer_spelling (TheRecord arrival parents kept_parents kept_children keys)) ≤ 1048576
 record-length arrival parents kept_parents kept_children keys p q few k =
     let counted = first (nat_le (length keys) 64 && list_all is_key keys) (are_ascending_keys keys) k in
