@@ -35,7 +35,7 @@ use Rattle.ceiling_book.proofs.Entries.{mapped, entry-mapped, entry-found, inser
 
 pub few-sessions : (l : Limits) → IsTrue (are_limits l) → l.max_sessions ≤ 4096
 few-sessions l h =
-    let a = is_within 1 16 l.sites && is_within 1 65000 l.max_kept && is_within 1 4096 l.max_path in
+    let a = is_within 1 16 l.sites && is_within 1 65000 l.max_kept && is_within 1 65000 l.max_path in
     let d = is_within 1 4096 l.max_sessions in
     let first = and_parts (a && d) (nat_le l.max_trail 1073741824) h in
     let second = and_parts a d first.0 in

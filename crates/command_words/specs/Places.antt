@@ -1,7 +1,7 @@
 -- Which places there are.
 use Rattle.std.specs.Prelude.{ℕ, ◌≤◌}
 use Rattle.tardis_base.specs.declared.records.Limits.{Limits}
-use Rattle.tardis_base.specs.Sizes.{most_sites, usual_kept, most_pairs, usual_sessions, longest_trail}
+use Rattle.tardis_base.specs.Sizes.{most_sites, usual_kept, usual_pairs, usual_sessions, longest_trail}
 use Rattle.command_words.specs.declared.commands.Place.{Place}
 use Rattle.command_words.specs.declared.commands.Command.{Command}
 use Rattle.command_words.specs.declared.commands.Command.TheVariants.{Run, Shell, Audit, World, Serve, Load, Auto, Durable, Export, Import}
@@ -28,4 +28,4 @@ HasPlace Import = Unit {0}
 
 -- the limits of a site that a program runs, by how many sites there are
 abbrev pub program_limits : ℕ → Limits
-program_limits sites = record { sites = sites; max_kept = usual_kept; max_path = most_pairs; max_sessions = usual_sessions; max_trail = longest_trail }
+program_limits sites = record { sites = sites; max_kept = usual_kept; max_path = usual_pairs; max_sessions = usual_sessions; max_trail = longest_trail }

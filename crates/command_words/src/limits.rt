@@ -5,13 +5,13 @@ ghost use Rattle.tardis_base.specs.Valid.{are_limits};
 ghost use Rattle.command_words.specs.Places.{IsPlace, program_limits};
 
 use crate::commands::Place;
-use tardis_base::{Limits, MAX_PATH, MAX_TRAIL, USUAL_KEPT, USUAL_SESSIONS};
+use tardis_base::{Limits, MAX_TRAIL, USUAL_KEPT, USUAL_PATH, USUAL_SESSIONS};
 
 /// The limits of a site that is alone.
 const LIMITS: Limits = Limits {
     sites: 1,
     max_kept: USUAL_KEPT,
-    max_path: MAX_PATH,
+    max_path: USUAL_PATH,
     max_sessions: USUAL_SESSIONS,
     max_trail: MAX_TRAIL,
 };

@@ -258,7 +258,7 @@ pub limits-fit : (l : Limits) → IsTrue (are_limits l) → IsTrue (fit_limits l
 limits-fit l h =
     let sites = is_within 1 16 l.sites in
     let kept = is_within 1 65000 l.max_kept in
-    let pairs = is_within 1 4096 l.max_path in
+    let pairs = is_within 1 65000 l.max_path in
     let sessions = is_within 1 4096 l.max_sessions in
     let a = and_parts (sites && kept && pairs && sessions) (nat_le l.max_trail 1073741824) h in
     let b = and_parts (sites && kept && pairs) sessions a.0 in
@@ -268,7 +268,7 @@ limits-fit l h =
     (and_from (is_u16 l.sites && is_u32 l.max_kept && is_u32 l.max_path) (is_u16 l.max_sessions)
     (and_from (is_u16 l.sites && is_u32 l.max_kept) (is_u32 l.max_path)
     (and_from (is_u16 l.sites) (is_u32 l.max_kept) (most l.sites 16 65536 d.0 (omega arith)) (most l.max_kept 65000 4294967296 d.1 (omega arith)))
-    (most l.max_path 4096 4294967296 c.1 (omega arith)))
+    (most l.max_path 65000 4294967296 c.1 (omega arith)))
     (most l.max_sessions 4096 65536 b.1 (omega arith)))
     (fits l.max_trail 1073741824 18446744073709551616 a.1 (omega arith))
   where
@@ -285,7 +285,7 @@ place_fits p h =
     below l own h few =
         let sites = is_within 1 16 l.sites in
         let kept = is_within 1 65000 l.max_kept in
-        let pairs = is_within 1 4096 l.max_path in
+        let pairs = is_within 1 65000 l.max_path in
         let sessions = is_within 1 4096 l.max_sessions in
         let a = first (sites && kept && pairs && sessions) (nat_le l.max_trail 1073741824) h in
         let d = first sites kept (first (sites && kept) pairs (first (sites && kept && pairs) sessions a)) in

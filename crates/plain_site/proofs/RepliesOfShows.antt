@@ -122,7 +122,7 @@ arrival-bound (r ∷ rs) x = elim (cases_Bool (same_id x r.id)) [
   | inr f ↦ let e = cond-false (same_id x r.id) (length rs) (arrival rs x) f in let l = arrival-bound rs x in omega arith
 ]
 
-shown-fits : (site : Site) (x : StateId) → IsRanged site → length (fork_path site.dag site.collected x) ≤ 4096 →
+shown-fits : (site : Site) (x : StateId) → IsRanged site → length (fork_path site.dag site.collected x) ≤ 65000 →
     Fits (Shown (arrival site.dag x) (children site.dag x) (fork_path site.dag site.collected x))
 shown-fits site x ranged few_pairs =
     let number : ℕ = arrival site.dag x in
@@ -155,5 +155,5 @@ show-fits site x sound ranged h =
     (λ f. both_ways (not (is_known site.dag x)) a.0 (not_from_false (is_known site.dag x) f)) in
     let kept : IsTrue (is_kept site.dag site.collected x) = and_from (is_known site.dag x) (not (is_among x site.collected)) known
     (not_from_false (is_among x site.collected) b.0) in
-    let few : length (fork_path site.dag site.collected x) ≤ 4096 = omega (arith, sound.short_paths x kept, ranged.limits.path) in
+    let few : length (fork_path site.dag site.collected x) ≤ 65000 = omega (arith, sound.short_paths x kept, ranged.limits.path) in
     good-reply site (Shown (arrival site.dag x) (children site.dag x) (fork_path site.dag site.collected x)) (shown-fits site x ranged few))

@@ -24,7 +24,7 @@ use Rattle.plain_site.proofs.RepliesHistory.{is_stored, dag-stored, known-is-id,
 pub record AreWithin (l : Limits) : Type 0 where
   pub sites : (1 ≤ l.sites) × (l.sites ≤ 16)
   pub kept : l.max_kept ≤ 65000
-  pub path : l.max_path ≤ 4096
+  pub path : l.max_path ≤ 65000
   pub sessions : l.max_sessions ≤ 4096
 
 within-parts : (least most n : ℕ) → IsTrue (is_within least most n) → (least ≤ n) × (n ≤ most)
@@ -32,15 +32,15 @@ within-parts least most n h = let p = and_parts (nat_le least n) (nat_le n most)
 
 pub limits-within : (l : Limits) → IsTrue (are_limits l) → AreWithin l
 limits-within l h =
-    let a = and_parts (is_within 1 16 l.sites && is_within 1 65000 l.max_kept && is_within 1 4096 l.max_path && is_within 1 4096 l.max_sessions)
+    let a = and_parts (is_within 1 16 l.sites && is_within 1 65000 l.max_kept && is_within 1 65000 l.max_path && is_within 1 4096 l.max_sessions)
     (nat_le l.max_trail 1073741824) h in
-    let b = and_parts (is_within 1 16 l.sites && is_within 1 65000 l.max_kept && is_within 1 4096 l.max_path) (is_within 1 4096 l.max_sessions) a.0 in
-    let c = and_parts (is_within 1 16 l.sites && is_within 1 65000 l.max_kept) (is_within 1 4096 l.max_path) b.0 in
+    let b = and_parts (is_within 1 16 l.sites && is_within 1 65000 l.max_kept && is_within 1 65000 l.max_path) (is_within 1 4096 l.max_sessions) a.0 in
+    let c = and_parts (is_within 1 16 l.sites && is_within 1 65000 l.max_kept) (is_within 1 65000 l.max_path) b.0 in
     let d = and_parts (is_within 1 16 l.sites) (is_within 1 65000 l.max_kept) c.0 in
     record {
       sites = within-parts 1 16 l.sites d.0;
       kept = (within-parts 1 65000 l.max_kept d.1).1;
-      path = (within-parts 1 4096 l.max_path c.1).1;
+      path = (within-parts 1 65000 l.max_path c.1).1;
       sessions = (within-parts 1 4096 l.max_sessions b.1).1;
     }
 

@@ -20,7 +20,7 @@ pub limits-parts : (l : Limits) → IsTrue (are_limits l) → AreLimitsOf l
 limits-parts l h =
     let sites = is_within 1 16 l.sites in
     let kept = is_within 1 65000 l.max_kept in
-    let path = is_within 1 4096 l.max_path in
+    let path = is_within 1 65000 l.max_path in
     let sessions = is_within 1 4096 l.max_sessions in
     let trail = nat_le l.max_trail 1073741824 in
     let most = and_parts (sites && kept && path && sessions) trail h in

@@ -85,7 +85,7 @@ past-one site false refusal more answer f = refl
 
 some-sessions : (l : Limits) → IsTrue (are_limits l) → 1 ≤ l.max_sessions
 some-sessions l h =
-    let first = is_within 1 16 l.sites && is_within 1 65000 l.max_kept && is_within 1 4096 l.max_path in
+    let first = is_within 1 16 l.sites && is_within 1 65000 l.max_kept && is_within 1 65000 l.max_path in
     let sessions = is_within 1 4096 l.max_sessions in
     let more = and_parts (first && sessions) (nat_le l.max_trail 1073741824) h in
     let both = and_parts first sessions more.0 in

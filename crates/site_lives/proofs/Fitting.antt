@@ -208,7 +208,7 @@ small-number : (limits : Limits) (own : ℕ) → IsTrue (are_limits limits) → 
 small-number limits own valid within =
     let a : Bool = is_within 1 16 limits.sites in
     let b : Bool = is_within 1 65000 limits.max_kept in
-    let c : Bool = is_within 1 4096 limits.max_path in
+    let c : Bool = is_within 1 65000 limits.max_path in
     let d : Bool = is_within 1 4096 limits.max_sessions in
     let e : Bool = nat_le limits.max_trail 1073741824 in
     let sites = (and_parts a b (and_parts (a && b) c (and_parts (a && b && c) d (and_parts (a && b && c && d) e valid).0).0).0).0 in

@@ -251,7 +251,7 @@ pub limits-parts : (l : Limits) → IsTrue (are_limits l) → AreLimits l
 limits-parts l h =
     let a = is_within 1 16 l.sites in
     let b = is_within 1 65000 l.max_kept in
-    let c = is_within 1 4096 l.max_path in
+    let c = is_within 1 65000 l.max_path in
     let d = is_within 1 4096 l.max_sessions in
     let first = and_parts (a && b && c && d) (nat_le l.max_trail 1073741824) h in
     let second = and_parts (a && b && c) d first.0 in

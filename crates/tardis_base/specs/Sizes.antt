@@ -1,6 +1,6 @@
 -- How much one thing may hold.
 use Rattle.std.specs.Prelude.{ℕ}
-use Rattle.tardis_base.specs.declared.sizes.TheConstants.{MAX_KEY, MAX_VALUE, MAX_WRITES, MAX_READS, MAX_PARENTS, MAX_FRAME, MAX_FRAMED, MAX_REQUEST, PIECE, MAX_NEWS, MAX_NAMED, MAX_WAITING, MAX_SITES, MAX_KEPT, MAX_PATH, MAX_SESSIONS, MAX_TRAIL, USUAL_KEPT, USUAL_SESSIONS}
+use Rattle.tardis_base.specs.declared.sizes.TheConstants.{MAX_KEY, MAX_VALUE, MAX_WRITES, MAX_READS, MAX_PARENTS, MAX_FRAME, MAX_FRAMED, MAX_REQUEST, PIECE, MAX_NEWS, MAX_NAMED, MAX_WAITING, MAX_SITES, MAX_KEPT, MAX_PATH, MAX_SESSIONS, MAX_TRAIL, USUAL_KEPT, USUAL_PATH, USUAL_SESSIONS}
 
 -- the most bytes of a key
 abbrev pub longest_key : ℕ
@@ -65,6 +65,10 @@ usual_kept = USUAL_KEPT
 -- the most pairs of a fork path
 abbrev pub most_pairs : ℕ
 most_pairs = MAX_PATH
+
+-- the most pairs of a fork path at a program's site, where nothing else is said
+abbrev pub usual_pairs : ℕ
+usual_pairs = USUAL_PATH
 
 -- the most sessions that may be open at once
 abbrev pub most_sessions : ℕ

@@ -46,8 +46,11 @@ pub const MAX_KEPT: u32 = 65_000;
 /// The most states that a program's site keeps, where nothing else is said.
 pub const USUAL_KEPT: u32 = 16_384;
 
-/// The most pairs of a fork path.
-pub const MAX_PATH: u32 = 4_096;
+/// The most pairs that a fork path may have. (With the most children they fit one reply.)
+pub const MAX_PATH: u32 = 65_000;
+
+/// The most pairs that a fork path may have at a program's site, where nothing else is said.
+pub const USUAL_PATH: u32 = 4_096;
 
 /// The most sessions that may be open at once.
 pub const MAX_SESSIONS: u16 = 4_096;

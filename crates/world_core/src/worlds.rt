@@ -23,8 +23,8 @@ use std::alloc::Global;
 use std::hash::RandomState;
 use std::marker::Model;
 use tardis_base::{
-    Batch, Limits, ListOf, MAX_PATH, MAX_SESSIONS, MAX_TRAIL, Machine, NoMemory, ReadFault,
-    Refusal, ReplyBuf,
+    Batch, Limits, ListOf, MAX_TRAIL, Machine, NoMemory, ReadFault, Refusal, ReplyBuf, USUAL_PATH,
+    USUAL_SESSIONS,
 };
 use wire_talk::{read_request, talk_has_one_spelling};
 
@@ -174,8 +174,8 @@ fn site_limits(sites: u16) -> Limits
     Limits {
         sites,
         max_kept: 1_024,
-        max_path: MAX_PATH,
-        max_sessions: MAX_SESSIONS,
+        max_path: USUAL_PATH,
+        max_sessions: USUAL_SESSIONS,
         max_trail: MAX_TRAIL,
     }
 }
