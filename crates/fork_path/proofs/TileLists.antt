@@ -1,18 +1,18 @@
 -- Lists of tiles: what they hold, and the order of their keys.
-use Rattle.std.proofs.Common.{◌≡◌, ℕ, ◌-◌, ◌<◌, ◌≤◌, Bool, true, false, not, ◌&&◌, ◌||◌, List, [], ◌∷◌, ◌++◌, length, get_or, take, drop, set, filter, eqb}
+use Rattle.std.proofs.Common.{◌≡◌, ℕ, ◌+◌, ◌-◌, ◌/◌, ◌<◌, ◌≤◌, Bool, true, false, not, ◌&&◌, ◌||◌, List, [], ◌∷◌, ◌++◌, length, get_or, take, drop, set, filter, eqb, ltb}
 use Rattle.std.proofs.Common.{IsTrue, refl, sym, ◌∙◌, ap, ap₂, subst, inl, inr, arith}
 use Rattle.std.specs.List.{All, AllWithin, insert, list_all}
 use Rattle.std.specs.List.Sorted.{IsPartitionPoint, IsPartitionedBy}
-use Rattle.std.proofs.lemmas.List.{get_or-map, length-map, take-map, drop-map, map-append, take-append-drop}
+use Rattle.std.proofs.lemmas.List.{get_or-map, get_or-set_same, get_or-set_other, length-map, take-map, drop-map, map-append, take-append-drop}
 use Rattle.std.proofs.lemmas.List.Folds.{list_any-append}
 use Rattle.std.proofs.lemmas.List.Elements.{All-cons, All-append, All-take, All-drop}
-use Rattle.std.proofs.lemmas.Bool.{and_parts, and_from, or_left, or_right, both_ways, cases_Bool}
+use Rattle.std.proofs.lemmas.Bool.{and_parts, and_from, or_cases, or_left, or_right, both_ways, cases_Bool, cases_lt, ltb-true}
 use Rattle.fork_path.specs.declared.tiles.Tile.{Tile}
 use Rattle.fork_path.specs.Pairs.{is_pair_before, are_ascending_pairs, is_same_pair, has_pair, with_pair}
 use Rattle.fork_path.specs.Tiles.{key_of, keys_of, holds, some_holds, HoldsPair}
-use Rattle.fork_path.proofs.PairOrder.{before-isnt_same, after-isnt_same, ascending-rest, before-rest, parted}
+use Rattle.fork_path.proofs.PairOrder.{before-from, before-isnt_same, after-isnt_same, ascending-rest, before-rest, parted}
 use Rattle.fork_path.proofs.PairSets.{ascending-with_pair, ascending-before, at-is_has, searched-with_pair}
-use Rattle.fork_path.proofs.TileBits.{holds-beside}
+use Rattle.fork_path.proofs.TileBits.{holds-beside, without-other}
 
 -- ===== Tests
 
@@ -189,18 +189,41 @@ pub record Cleared (fork : ℕ) (old new : Tile) : Type 0 where
   pub key : key_of new ≡ key_of old
   pub pairs : (p : ℕ × ℕ) → holds new p ≡ (not (eqb p.0 fork) && holds old p)
 
--- so many tiles are cleared, and the others as they were
-pub record ClearedUpTo (fork : ℕ) (old new : List Tile) (n : ℕ) : Type 0 where
-  pub cleared : (k : ℕ) (d : Tile) → k < n → k < length old → Cleared fork (get_or old k d) (get_or new k d)
+-- the tiles from the first place up to the other are cleared, and the others as they were; where none was left empty, each
+-- of those has a pair
+pub record ForkCleared (fork : ℕ) (old new : List Tile) (first n : ℕ) (is_one_empty : Bool) : Type 0 where
+  pub before : (k : ℕ) (d : Tile) → k < first → get_or new k d ≡ get_or old k d
+  pub cleared : (k : ℕ) (d : Tile) → first ≤ k → k < n → k < length old → Cleared fork (get_or old k d) (get_or new k d)
   pub rest : (k : ℕ) (d : Tile) → n ≤ k → get_or new k d ≡ get_or old k d
+  pub filled : is_one_empty ≡ false → (k : ℕ) (d : Tile) → first ≤ k → k < n → k < length old → HoldsPair (get_or new k d)
 
-pub cleared-keys : (fork : ℕ) (old new : List Tile) → length new ≡ length old →
-    ((k : ℕ) (d : Tile) → k < length old → Cleared fork (get_or old k d) (get_or new k d)) → keys_of new ≡ keys_of old
-cleared-keys fork [] [] len all = refl
-cleared-keys fork [] (u ∷ us) len all = absurd (omega arith)
-cleared-keys fork (t ∷ ts) [] len all = absurd (omega arith)
-cleared-keys fork (t ∷ ts) (u ∷ us) len all =
-    ap₂ (λ k ks. k ∷ ks) (all 0 t (omega arith)).key (cleared-keys fork ts us (omega arith) (λ k d lt. all (ℕ.suc k) d (omega arith)))
+same-keys : (old new : List Tile) → length new ≡ length old → ((k : ℕ) (d : Tile) → k < length old → key_of (get_or new k d) ≡ key_of (get_or old k d)) →
+    keys_of new ≡ keys_of old
+same-keys [] [] len all = refl
+same-keys [] (u ∷ us) len all = absurd (omega arith)
+same-keys (t ∷ ts) [] len all = absurd (omega arith)
+same-keys (t ∷ ts) (u ∷ us) len all =
+    ap₂ (λ k ks. k ∷ ks) (all 0 t (omega arith)) (same-keys ts us (omega arith) (λ k d lt. all (ℕ.suc k) d (omega arith)))
+
+pub cleared-keys : (fork : ℕ) (old new : List Tile) (first n : ℕ) (e : Bool) → length new ≡ length old → ForkCleared fork old new first n e →
+    keys_of new ≡ keys_of old
+cleared-keys fork old new first n e len c = same-keys old new len (λ k d lt. elim (cases_lt k first) [
+  | inl near ↦ ap key_of (c.before k d near)
+  | inr from ↦ elim (cases_lt k n) [
+    | inl below ↦ (c.cleared k d from below lt).key
+    | inr behind ↦ ap key_of (c.rest k d behind)
+  ]
+])
+
+pub cleared-filled : (fork : ℕ) (old new : List Tile) (first n : ℕ) (e : Bool) → length new ≡ length old → ForkCleared fork old new first n e → e ≡ false →
+    All HoldsPair old → All HoldsPair new
+cleared-filled fork old new first n e len c none all = λ k d lt. elim (cases_lt k first) [
+  | inl near ↦ subst HoldsPair (sym (c.before k d near)) (all k d (omega arith))
+  | inr from ↦ elim (cases_lt k n) [
+    | inl below ↦ c.filled none k d from below (omega arith)
+    | inr behind ↦ subst HoldsPair (sym (c.rest k d behind)) (all k d (omega arith))
+  ]
+]
 
 pub cleared-pairs : (fork : ℕ) (old new : List Tile) → length new ≡ length old →
     ((k : ℕ) (d : Tile) → k < length old → Cleared fork (get_or old k d) (get_or new k d)) → (p : ℕ × ℕ) → some_holds new p
@@ -219,6 +242,86 @@ cleared-pairs fork (t ∷ ts) (u ∷ us) len all p =
     spread : (a b c : Bool) → (a && b || a && c) ≡ (a && (b || c))
     spread true b c = refl
     spread false b c = refl
+
+-- a tile that stands before that of the fork's first branches has bits for earlier forks
+before-first : (t : Tile) (forks : ℕ) → is_pair_before (key_of t) (forks, 0) ≡ true → t.forks < forks
+before-first t forks h = elim (or_cases (ltb t.forks forks) (eqb t.forks forks && ltb t.branches 0) h) [
+  | inl lt ↦ ltb-true t.forks forks lt
+  | inr m ↦ let none = ltb-true t.branches 0 (and_parts (eqb t.forks forks) (ltb t.branches 0) m).1 in absurd (omega arith)
+]
+
+-- and one that doesn't has bits for these or later ones
+not_before-first : (t : Tile) (forks : ℕ) → is_pair_before (key_of t) (forks, 0) ≡ false → forks ≤ t.forks
+not_before-first t forks h = elim (cases_lt t.forks forks) [
+  | inl lt ↦ absurd (both_ways (is_pair_before (key_of t) (forks, 0)) h (before-from (key_of t) (forks, 0) (inl lt)))
+  | inr le ↦ le
+]
+
+-- the fork's tiles stand in a row: from the first that isn't before it up to one of later forks
+pub row_cleared-pairs : (fork : ℕ) (key : ℕ × ℕ) (old new : List Tile) (first n : ℕ) (e : Bool) → key ≡ (fork / 32, 0) → length new ≡ length old → first ≤ n →
+    (IsTrue (are_ascending_pairs (keys_of old)) → IsPartitionPoint (λ p. is_pair_before p key ≡ true) (λ p. is_pair_before p key ≡ false) (keys_of old) first) →
+    ForkCleared fork old new first n e → ((d : Tile) → n < length old → (get_or new n d).forks ≡ fork / 32 → ⊥) → are_ascending_pairs (keys_of old) ≡ true →
+    (p : ℕ × ℕ) → some_holds new p ≡ (not (eqb p.0 fork) && some_holds old p)
+row_cleared-pairs fork key old new first n e is_first len from_first parts c ends up = cleared-pairs fork old new len (λ k d lt. elim (cases_lt k first) [
+  | inl near ↦ unmoved k d (c.before k d near) (front k d near lt)
+  | inr from ↦ elim (cases_lt k n) [
+    | inl below ↦ c.cleared k d from below lt
+    | inr behind ↦ unmoved k d (c.rest k d behind) (back k d behind lt)
+  ]
+])
+  where
+    unmoved : (k : ℕ) (d : Tile) → get_or new k d ≡ get_or old k d → ((get_or old k d).forks ≡ fork / 32 → ⊥) → Cleared fork (get_or old k d) (get_or new k d)
+    unmoved k d same other =
+        subst (λ t. Cleared fork (get_or old k d) t) (sym same) (record { key = refl; pairs = without-other (get_or old k d) fork other })
+
+    front : (k : ℕ) (d : Tile) → k < first → k < length old → (get_or old k d).forks ≡ fork / 32 → ⊥
+    front k d near lt is =
+        let before : is_pair_before (get_or (keys_of old) k (key_of d)) key ≡ true = (parts up).0 k (key_of d) (omega arith) near in
+        let own : is_pair_before (key_of (get_or old k d)) key ≡ true =
+        subst (λ q. is_pair_before q key ≡ true) (key-at old k d (key_of d) lt) before in
+        let less = before-first (get_or old k d) (fork / 32) (subst (λ q. is_pair_before (key_of (get_or old k d)) q ≡ true) is_first own) in omega (arith, less, is)
+
+    mark : Tile
+    mark = record { forks = fork / 32 + 1; branches = 0; bits = 0 }
+
+    back : (k : ℕ) (d : Tile) → n ≤ k → k < length old → (get_or old k d).forks ≡ fork / 32 → ⊥
+    back k d le lt is =
+        let there : n < length old = omega arith in
+        let many : length (keys_of old) ≡ length old = keys-length old in
+        let low : is_pair_before (key_of (get_or old k d)) (key_of mark) ≡ true =
+        before-from (key_of (get_or old k d)) (key_of mark) (inl (omega (arith, is))) in
+        let at : is_pair_before (key_of (get_or old n d)) (fork / 32 + 1, 0) ≡ true = parted-tiles mark old up n k d le lt low in
+        let above = before-first (get_or old n d) (fork / 32 + 1) at in
+        let none : is_pair_before (get_or (keys_of old) n (key_of d)) key ≡ false = (parts up).1 n (key_of d) from_first (omega arith) in
+        let own : is_pair_before (key_of (get_or old n d)) key ≡ false =
+        subst (λ q. is_pair_before q key ≡ false) (key-at old n d (key_of d) there) none in
+        let below = not_before-first (get_or old n d) (fork / 32) (subst (λ q. is_pair_before (key_of (get_or old n d)) q ≡ false) is_first own) in
+        let same : (get_or old n d).forks ≡ fork / 32 = omega (arith, above, below) in
+        ends d there (ap (λ (t : Tile). t.forks) (c.rest n d (omega arith)) ∙ same)
+
+-- one more of the row is cleared
+pub clear-next : (fork : ℕ) (old new : List Tile) (first n : ℕ) (e f : Bool) (t left : Tile) → length new ≡ length old → first ≤ n → n < length new →
+    ((d : Tile) → get_or new n d ≡ t) → Cleared fork t left → (f ≡ false → (e ≡ false) × HoldsPair left) → ForkCleared fork old new first n e →
+    ForkCleared fork old (set new n left) first (n + 1) f
+clear-next fork old new first n e f t left len from lt at done some c = record {
+  before = λ k d near. get_or-set_other new n k left d (λ same. omega (arith, same)) ∙ c.before k d near;
+  cleared = λ k d le below inside. elim (cases_lt k n) [
+    | inl less ↦ subst (λ u. Cleared fork (get_or old k d) u) (sym (get_or-set_other new n k left d (λ same. omega (arith, same)))) (c.cleared k d le less inside)
+    | inr more ↦
+        let same : k ≡ n = omega arith in
+        let was : get_or old k d ≡ t = ap (λ i. get_or old i d) same ∙ sym (c.rest n d (omega arith)) ∙ at d in
+        let is : get_or (set new n left) k d ≡ left = ap (λ i. get_or (set new n left) i d) same ∙ get_or-set_same new n left d lt in
+        subst (λ u. Cleared fork u (get_or (set new n left) k d)) (sym was) (subst (λ u. Cleared fork t u) (sym is) done)
+  ];
+  rest = λ k d le. get_or-set_other new n k left d (λ same. omega (arith, same)) ∙ c.rest k d (omega arith);
+  filled = λ none k d le below inside. elim (cases_lt k n) [
+    | inl less ↦ subst HoldsPair (sym (get_or-set_other new n k left d (λ same. omega (arith, same)))) (c.filled (some none).0 k d le less inside)
+    | inr more ↦
+        let same : k ≡ n = omega arith in
+        let is : get_or (set new n left) k d ≡ left = ap (λ i. get_or (set new n left) i d) same ∙ get_or-set_same new n left d lt in
+        subst HoldsPair (sym is) (some none).1
+  ];
+}
 
 -- tiles that are left out with no pair
 pub kept-pairs : (keep : Tile → Bool) (ts : List Tile) (p : ℕ × ℕ) → ((t : Tile) → keep t ≡ false → holds t p ≡ false) → some_holds (filter keep ts) p

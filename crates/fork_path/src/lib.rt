@@ -115,6 +115,9 @@ impl ForkPath {
     }
 
     /// Removes all pairs of the fork. Each group that is left with no pair is room for another then.
+    ///
+    /// It is a binary search, and the cost grows with the number of the fork's own tiles; with that of all tiles only where one
+    /// is left with no pair.
     pub fn without_fork(&mut self, fork: u32)
         ensures room { self.new.room + length (groups_of self.new.pairs) ≡ self.old.room + length (groups_of self.old.pairs) }
         ensures pairs { self.new.pairs ≡ without_pairs_of fork self.old.pairs }

@@ -85,25 +85,42 @@ pub fn put_tile(tiles: &mut Vec<Tile>, tile: Tile)
 }
 
 /// Removes the pairs of a fork, and the tiles that are left with no pair.
+///
+/// It is a binary search and goes over the fork's own tiles, and over all tiles only where one is left with no pair.
 pub fn drop_fork(tiles: &mut Vec<Tile>, fork: u32)
     ensures ascending { IsTrue (are_ascending_pairs (keys_of tiles.old.items)) → IsTrue (are_ascending_pairs (keys_of tiles.new.items)) }
-    ensures filled { All HoldsPair tiles.new.items }
-    ensures pairs { (p : ℕ × ℕ) → some_holds tiles.new.items p ≡ (not (p.0 == fork) && some_holds tiles.old.items p) }
+    ensures filled { All HoldsPair tiles.old.items → All HoldsPair tiles.new.items }
+    ensures pairs { IsTrue (are_ascending_pairs (keys_of tiles.old.items))
+        → (p : ℕ × ℕ) → some_holds tiles.new.items p ≡ (not (p.0 == fork) && some_holds tiles.old.items p) }
     ensures len { vec_len tiles.new ≤ vec_len tiles.old }
     ensures capacity { vec_capacity tiles.new ≡ vec_capacity tiles.old }
 {
-    clear_fork(tiles.as_mut_slice(), fork);
+    if !clear_fork(tiles.as_mut_slice(), fork) {
+        return;
+    }
     tiles.retain(|tile| !tile.is_empty());
 }
 
-/// Clears the bits of a fork's pairs.
-fn clear_fork(tiles: &mut [Tile], fork: u32)
+/// Clears the bits of a fork's pairs, and answers whether a tile is left with no pair. The fork's tiles stand in a row.
+fn clear_fork(tiles: &mut [Tile], fork: u32) -> bool
     ensures keys { keys_of tiles.new ≡ keys_of tiles.old }
-    ensures pairs { (p : ℕ × ℕ) → some_holds tiles.new p ≡ (not (p.0 == fork) && some_holds tiles.old p) }
+    ensures pairs { IsTrue (are_ascending_pairs (keys_of tiles.old))
+        → (p : ℕ × ℕ) → some_holds tiles.new p ≡ (not (p.0 == fork) && some_holds tiles.old p) }
+    ensures filled { result ≡ false → All HoldsPair tiles.old → All HoldsPair tiles.new }
 {
-    for tile in tiles.iter_mut() {
-        *tile = tile.without(fork);
+    let first = place_of(tiles, Tile::of(fork, 0));
+    let mut is_one_empty = false;
+    for place in first..tiles.len() {
+        if !tiles[place].is_of(fork) {
+            return is_one_empty;
+        }
+        let left = tiles[place].without(fork);
+        tiles[place] = left;
+        if left.is_empty() {
+            is_one_empty = true;
+        }
     }
+    is_one_empty
 }
 
 /// How many tiles at the front of the two lists are the same.

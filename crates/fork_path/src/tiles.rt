@@ -1,6 +1,6 @@
 //! Tiles: pairs of forks and branches that stand close together, as the bits of a number.
 
-ghost use Rattle.std.specs.Prelude.{ℕ, ◌≡◌, ◌<◌, ◌==◌, ◌&&◌, ◌||◌, true, false, not};
+ghost use Rattle.std.specs.Prelude.{ℕ, ◌≡◌, ◌<◌, ◌==◌, ◌&&◌, ◌||◌, ◌/◌, true, false, not};
 ghost use Rattle.fork_path.specs.Pairs.{is_same_pair, is_pair_before};
 ghost use Rattle.fork_path.specs.Tiles.{key_of, bit_of, holds, HoldsPair};
 
@@ -82,6 +82,13 @@ impl Tile {
             bits: self.bits | other.bits,
             ..self
         }
+    }
+
+    /// Whether it has bits for pairs of the fork.
+    pub(crate) fn is_of(self, fork: u32) -> bool
+        ensures { result ≡ (self.forks == fork / 32) }
+    {
+        self.forks == fork / FORKS
     }
 
     /// The pairs of the other forks.
