@@ -1,13 +1,13 @@
 //! Which first branches lead where, in a table that is to grow below some parents.
 
-ghost use Rattle.std.specs.Prelude.{◌≡◌, ℕ, ◌<◌, ◌≤◌, ◌++◌, false, nat_le, [], length, find, filter, slice_index_or, None, IsTrue, IfOk, OnOk, MatchResult};
+ghost use Rattle.std.specs.Prelude.{◌≡◌, ℕ, ◌<◌, ◌≤◌, ◌+◌, ◌++◌, false, nat_le, [], length, find, filter, slice_index_or, None, IsTrue, IfOk, OnOk, MatchResult};
 ghost use Rattle.std.specs.List.{list_all};
 ghost use Rattle.std.specs.List.Sorted.{IsNonDecreasingBy};
 ghost use Rattle.std.specs.Option.{option_copied, option_map, option_map_or};
 ghost use Rattle.tardis_base.specs.declared.ids.Slot.{Slot};
 ghost use Rattle.state_dag.specs.Table.{arrival_at, is_slot_above};
 ghost use Rattle.state_dag.specs.Grown.{path_at, leads_first};
-ghost use Rattle.state_dag.specs.Nodes.{table_of, are_places, is_child_above, gains_at, all_gains, is_long, TellsLong};
+ghost use Rattle.state_dag.specs.Nodes.{table_of, are_places, is_child_above, gains_at, all_gains, is_long, TellsLong, TellsOwn};
 
 use crate::nodes::{Node, first_from, is_node_above, node_at};
 use crate::sums::sum_in_u32;
@@ -88,6 +88,25 @@ fn add_gains(
     Ok(())
 }
 
+/// Tells the state whose path has more pairs than a path may have, with so many that it gains. The path of a state that gains
+/// none is short, and isn't counted.
+fn check_gained(node: &Node, gained: usize, limits: &Limits) -> Result<(), AddFault>
+    requires { length node.now.path.pairs ≤ limits.now.max_path }
+    ensures { TellsOwn node.now.id (length node.now.path.pairs + gained) limits.now.max_path result }
+{
+    if gained == 0 {
+        return Ok(());
+    }
+    let pairs = sum_in_u32(node.path.len(), gained)?;
+    if pairs > limits.max_path {
+        return Err(AddFault::PathFull {
+            state: node.id,
+            pairs,
+        });
+    }
+    Ok(())
+}
+
 /// All first branches of the parents, with each of the states at the slots that they lead to, in this order. Tells the
 /// first of these states whose path would have more pairs than a path may have. The slots stand in arrival order.
 pub fn gains(
@@ -109,14 +128,7 @@ pub fn gains(
         let slot = slots[place];
         let before = gains.len();
         add_gains(&mut gains, nodes, parents, slot)?;
-        let node = &nodes[slot.0 as usize];
-        let pairs = sum_in_u32(node.path.len(), gains.len() - before)?;
-        if pairs > limits.max_path {
-            return Err(AddFault::PathFull {
-                state: node.id,
-                pairs,
-            });
-        }
+        check_gained(&nodes[slot.0 as usize], gains.len() - before, limits)?;
     }
     Ok(gains)
 }
