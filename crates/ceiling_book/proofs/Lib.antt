@@ -7,3 +7,4 @@ pub mod Newest
 pub mod Late
 pub mod Consenting
 pub mod Renames
+pub mod SlotTests

@@ -14,7 +14,7 @@ seen a = record {
   floors = a.floors.items;
 }
 
--- the own number is that of a site, of at most 16, and no more sessions are open than may be, which is at most 256
+-- the own number is that of a site, of at most 16, and no more sessions are open than may be, which is at most 4,096
 pub record IsHeld (a : Inside) : Type 0 where
   pub first : 1 ≤ a.own
   pub last : a.own ≤ length a.floors.items

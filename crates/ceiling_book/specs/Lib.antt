@@ -6,3 +6,4 @@ pub mod Answers
 pub mod Floors
 pub mod Consents
 pub mod Renaming
+pub mod Images

@@ -18,12 +18,12 @@ ghost use Rattle.ceiling_book.specs.Renaming.{renamed, is_free, GivesUp};
 
 mod consents;
 mod floors;
+mod images;
 mod parts;
 
 pub use consents::ConsentEnd;
 pub use floors::{CeilingBack, RaiseFault};
-use parts::KnownFloor;
-pub use parts::{OpenSession, Place};
+pub use parts::{KnownFloor, OpenSession, Place};
 use state_dag::StateDag;
 use std::alloc::{AllocFailed, Global};
 use std::collections::{BTreeMap, btree_map};

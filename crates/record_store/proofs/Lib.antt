@@ -6,3 +6,5 @@ pub mod Holding
 pub mod Records
 pub mod LatestHolders
 pub mod Collecting
+pub mod Rising
+pub mod Arrivals
