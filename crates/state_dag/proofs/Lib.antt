@@ -47,3 +47,4 @@ pub mod LeftSlots
 pub mod LeftMemory
 pub mod Heirs
 pub mod SlotOrders
+pub mod Lent
