@@ -9,7 +9,7 @@ use Rattle.state_dag.specs.declared.StateDag.TheInside.{Inside}
 use Rattle.state_dag.specs.declared.nodes.Node.{Node}
 use Rattle.state_dag.specs.Table.{Entry, Table, entry_at, is_slot}
 use Rattle.state_dag.specs.Views.{entry_of}
-use Rattle.state_dag.specs.Held.{kept_of, seen, IsHeld}
+use Rattle.state_dag.specs.Held.{seen, IsHeld}
 use Rattle.state_dag.specs.Images.{IsTable}
 use Rattle.state_dag.proofs.KeptEntries.{slots_of}
 use Rattle.state_dag.proofs.Memory.{kept-slots, kept-placed, kept-now, entries-long, entries-apart}

@@ -48,3 +48,4 @@ pub mod LeftMemory
 pub mod Heirs
 pub mod SlotOrders
 pub mod Lent
+pub mod KeptTests

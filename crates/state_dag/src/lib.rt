@@ -249,6 +249,21 @@ impl StateDag {
         self.slots.get(id)
     }
 
+    /// Whether a state is kept at the slot, which may be any. The cost grows with the logarithm of the number of kept states.
+    pub fn is_kept(&self, slot: Slot) -> bool
+        ensures { result ≡ is_slot self.now slot }
+    {
+        let Some(node) = node_at(&self.nodes, slot) else {
+            return false;
+        };
+        let kept = self.order.kept();
+        let place = first_from(&self.nodes, kept, node.arrival);
+        match slot_at(kept, place) {
+            Some(found) => found == slot,
+            None => false,
+        }
+    }
+
     /// The place of the state at the slot among the kept ones: how many of these arrived before it. The cost grows with the
     /// logarithm of the number of kept states.
     pub fn place(&self, slot: Slot) -> usize

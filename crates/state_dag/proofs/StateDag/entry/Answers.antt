@@ -1,9 +1,9 @@
-use Rattle.std.proofs.Common.{◌∙◌, ◌<◌, length, get_or, Some, ap, arith, subst, sym}
+use Rattle.std.proofs.Common.{◌∙◌, length, get_or, Some, ap, arith}
 use Rattle.fork_path.specs.Tiles.{pairs_of}
 use Rattle.state_dag.specs.Table.{Table}
 use Rattle.state_dag.proofs.Known.{limits-parts}
 use Rattle.state_dag.proofs.Memory.{entries-long}
-use Rattle.state_dag.proofs.Lent.{lent-within, lent-slot, lent-is_slot, lent-node, parts-are}
+use Rattle.state_dag.proofs.Lent.{lent-within, lent-is_slot, lent-node, parts-are}
 use Rattle.state_dag.proofs.StateDag.entry.Goals as goal
 
 pub offset_bounds-kept-place : goal.offset_bounds-kept-place
