@@ -47,3 +47,5 @@ pub mod LeftSlots
 pub mod LeftMemory
 pub mod Heirs
 pub mod SlotOrders
+pub mod Lent
+pub mod KeptTests

@@ -27,6 +27,7 @@ mod changes;
 mod collection;
 mod growth;
 mod id_slots;
+mod images;
 mod leads;
 mod named_paths;
 mod new_paths;
@@ -41,6 +42,7 @@ use changes::{grow, put_node, set_count};
 use collection::{first_holder, hand_over};
 use growth::{check_path, new_node};
 use id_slots::IdSlots;
+pub use images::EntryParts;
 use leads::gains;
 use named_paths::named_path;
 use nodes::{Node, first_from, is_node_above, node_at, root_node};
@@ -245,6 +247,21 @@ impl StateDag {
         ensures none { result ≡ None → (rs : List Record) (ks : List StateId) → Stands self.now rs ks → is_kept rs ks id ≡ false }
     {
         self.slots.get(id)
+    }
+
+    /// Whether a state is kept at the slot, which may be any. The cost grows with the logarithm of the number of kept states.
+    pub fn is_kept(&self, slot: Slot) -> bool
+        ensures { result ≡ is_slot self.now slot }
+    {
+        let Some(node) = node_at(&self.nodes, slot) else {
+            return false;
+        };
+        let kept = self.order.kept();
+        let place = first_from(&self.nodes, kept, node.arrival);
+        match slot_at(kept, place) {
+            Some(found) => found == slot,
+            None => false,
+        }
     }
 
     /// The place of the state at the slot among the kept ones: how many of these arrived before it. The cost grows with the
