@@ -11,6 +11,7 @@ ghost use Rattle.state_dag.specs.Stands.{Stands};
 ghost use Rattle.branch_region.specs.Regions.{is_above_part, apart_states, shared_states};
 
 mod asked;
+mod marks;
 mod older;
 mod parts;
 mod walks;
