@@ -110,7 +110,7 @@ one-more-kept rs ks r out =
     omega (arith, lengths, equal)
 
 -- a history that stays within its limits was free to grow
-grows-within : (limits : Limits) (ks : List StateId) (rs : List Record) (r : Record) → length (kept_states rs ks) < limits.max_kept →
+pub grows-within : (limits : Limits) (ks : List StateId) (rs : List Record) (r : Record) → length (kept_states rs ks) < limits.max_kept →
     ((x : StateId) → IsTrue (is_kept (r ∷ rs) ks x) → length (fork_path (r ∷ rs) ks x) ≤ limits.max_path) →
     growth_refusal limits ks rs r ≡ None
 grows-within limits ks rs r room short =
@@ -141,13 +141,13 @@ some-site r valid =
 -- ===== A record
 
 -- a list of replies, none of which is given
-none-first : (first : Option Reply) (others : List (Option Reply)) → first ≡ None → AreNone others → AreNone (first ∷ others)
+pub none-first : (first : Option Reply) (others : List (Option Reply)) → first ≡ None → AreNone others → AreNone (first ∷ others)
 none-first first others e h = and_from (is_none first) (list_all is_none others) (ap is_none e) h
 
 untold : (test : Bool) (reply : Reply) → IsFalse test → when test reply ≡ None
 untold test reply f = ap (λ t. when t reply) f
 
-unrefused : {A : Type 0} (refusal : A → Refusal) (o : Option A) → o ≡ None → refuse_found refusal o ≡ None
+pub unrefused : {A : Type 0} (refusal : A → Refusal) (o : Option A) → o ≡ None → refuse_found refusal o ≡ None
 unrefused refusal o e = ap (refuse_found refusal) e
 
 none-from-is_none : {A : Type 0} (o : Option A) → IsTrue (is_none o) → o ≡ None
@@ -295,12 +295,12 @@ module _ (site : Site) (c : Consent) where
 
 -- ===== What may be taken back leads to a sound site
 
-rests-still : (site : Site) (l : Lasting) → with_lasting l (at_rest site) ≡ at_rest (with_lasting l (at_rest site))
+pub rests-still : (site : Site) (l : Lasting) → with_lasting l (at_rest site) ≡ at_rest (with_lasting l (at_rest site))
 rests-still site (News (State r)) = refl
 rests-still site (News (Promise c)) = refl
 rests-still site (Collection count) = refl
 
-one-keeps : (site : Site) (l : Lasting) → IsSound (at_rest site) → IsTrue (is_lasting l) → IsTrue (fits (at_rest site) l) →
+pub one-keeps : (site : Site) (l : Lasting) → IsSound (at_rest site) → IsTrue (is_lasting l) → IsTrue (fits (at_rest site) l) →
     IsSound (with_lasting l (at_rest site))
 one-keeps site (News (State r)) sound valid fit = record-is-next (at_rest site) r sound valid fit
 one-keeps site (News (Promise c)) sound valid fit = promise-keeps (at_rest site) c refl sound valid fit

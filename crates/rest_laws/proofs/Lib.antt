@@ -8,6 +8,7 @@ pub mod Spelled
 pub mod Valid
 pub mod Fitting
 pub mod FittingTrails
+pub mod Larger
 pub mod Dry
 pub mod Living
 pub mod Runs

@@ -3,5 +3,6 @@ pub mod Laws
 pub mod Trails
 pub mod SpellingLaws
 pub mod FitLaws
+pub mod LimitLaws
 pub mod Lives
 pub mod WrongSteps

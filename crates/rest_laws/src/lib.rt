@@ -10,6 +10,7 @@ ghost use Rattle.rest_laws.specs.Laws.{RequestsAddWhatLasts, OthersAddNothing, N
 ghost use Rattle.rest_laws.specs.Laws.{RestIsSound, RestIsRest, SiteIsShownAsBefore, StatIsAsBefore, ReadsAreAsBefore};
 ghost use Rattle.rest_laws.specs.Trails.{lasting_of_answers, TrailsAreReplayed, OpeningsAreReplayed, AnswersAreReplayed, IsKeptAsSeen, KeptFrontsAreOfFronts};
 ghost use Rattle.rest_laws.specs.FitLaws.{KeptFits, WhatFitsKeepsSound, WhatLastsFits};
+ghost use Rattle.rest_laws.specs.LimitLaws.{LargerLimitsTakeBack, LargerLimitsKeepSound, SmallerLimitsMayRefuse};
 ghost use Rattle.rest_laws.specs.Lives.{CommitsOutliveTheSite, CommitsStayTold, LivesAreOneRun};
 ghost use Rattle.rest_laws.specs.SpellingLaws.{LastingHasOneSpelling, AllHaveOneSpelling, LastingIsShort, WhatLastsIsSpelled};
 ghost use Rattle.rest_laws.specs.WrongSteps.{IsBrokenAt, keeps_sessions, keeps_txns, loses_newest, raises_at_rest};
@@ -93,6 +94,15 @@ pub fn what_lasted_may_be_taken_back()
 {
     talk_has_one_spelling();
 }
+
+/// A site that is given larger limits when it starts again loses nothing: what a sound site takes back under its limits, it takes back
+/// under larger ones too, and becomes the same site but for these; and it is sound under them. Under smaller ones it may not take back
+/// what it took under its own.
+pub fn larger_limits_lose_nothing()
+    ensures takes { LargerLimitsTakeBack }
+    ensures sound { LargerLimitsKeepSound }
+    ensures smaller { SmallerLimitsMayRefuse }
+{}
 
 /// Two lives of a site are one run: a site starts again as if at the end of its life each session had been closed, and as if no
 /// record had ever waited but each had come when it was taken. So what is true of all runs, as what a client can rely on, is
