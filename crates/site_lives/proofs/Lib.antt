@@ -3,5 +3,6 @@ pub mod Stays
 pub mod Trails
 pub mod Once
 pub mod Lasting
+pub mod Larger
 pub mod Fitting
 pub mod Spelled

@@ -2,11 +2,13 @@
 -- knows none, so that what is true of that is true here.
 use Rattle.std.specs.Prelude.{◌≡◌, ℕ, bytes_eq, List, [], ◌∷◌, ◌++◌, option_to_list, is_none, IsTrue, if◌then◌else◌}
 use Rattle.std.specs.List.{list_all}
+use Rattle.tardis_base.specs.declared.records.Limits.{Limits}
 use Rattle.tardis_base.specs.Plain.{Event, Answers, no_memory}
 use Rattle.tardis_base.specs.Valid.{is_u16}
 use Rattle.plain_site.specs.Sound.{IsSound}
 use Rattle.plain_site.specs.Rest.{Lasting, replay, all_fit}
 use Rattle.rest_laws.specs.Trails.{lasting_of_answers}
+use Rattle.rest_laws.specs.LimitLaws.{under, AreWithin}
 use Rattle.site_lives.specs.Lives.{life_of}
 use Rattle.site_lives.specs.Acquainted.{Acquainted, acquainted_machine}
 use Rattle.site_lives.specs.Laws.{others, replies_to_others}
@@ -83,3 +85,20 @@ AllFits =
 -- bytes are taken back in one way at most
 abbrev pub OneWayBack : Type 0
 OneWayBack = (a b c : Acquainted) (bytes : List ℕ) → TakesBack a bytes b → TakesBack a bytes c → b ≡ c
+
+-- ===== Larger limits
+
+-- the site under these limits, with the lives that it knows
+abbrev pub all_under : Limits → Acquainted → Acquainted
+all_under limits a = record { site = under limits a.site; lives = a.lives }
+
+-- bytes that a sound site takes back, it takes back under larger limits too, and becomes the same but for its limits
+abbrev pub LargerLimitsTakeBytes : Type 0
+LargerLimitsTakeBytes =
+    (a behind : Acquainted) (larger : Limits) (bytes : List ℕ) → IsSound a.site → AreWithin a.site.limits larger → TakesBack a bytes behind →
+    TakesBack (all_under larger a) bytes (all_under larger behind)
+
+-- what a sound site takes back leaves it sound, under the same limits
+abbrev pub BytesKeepSound : Type 0
+BytesKeepSound =
+    (a behind : Acquainted) (bytes : List ℕ) → IsSound a.site → TakesBack a bytes behind → IsSound behind.site × (behind.site.limits ≡ a.site.limits)

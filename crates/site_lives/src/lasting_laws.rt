@@ -1,6 +1,6 @@
 //! Laws of what lasts of a site and of the lives that it knows. Each call does nothing.
 
-ghost use Rattle.site_lives.specs.RestLaws.{SiteIsReplayed, SiteFits, SiteHasItsThings, AllIsReplayed, FrontsAreOfFronts, AllFits, OneWayBack};
+ghost use Rattle.site_lives.specs.RestLaws.{SiteIsReplayed, SiteFits, SiteHasItsThings, AllIsReplayed, FrontsAreOfFronts, AllFits, OneWayBack, LargerLimitsTakeBytes, BytesKeepSound};
 
 use wire_lives::introductions_have_one_spelling;
 use wire_talk::talk_has_one_spelling;
@@ -11,6 +11,13 @@ pub fn what_lasts_of_the_site_is_its_own()
     ensures replayed { SiteIsReplayed }
     ensures fits { SiteFits }
     ensures things { SiteHasItsThings }
+{}
+
+/// What a site takes back under its limits, it takes back under larger ones too, and becomes the same site but for these; and what it
+/// takes back leaves it sound.
+pub fn larger_limits_take_the_same_bytes()
+    ensures takes { LargerLimitsTakeBytes }
+    ensures sound { BytesKeepSound }
 {}
 
 /// What lasts of a whole trail leads to the site at rest behind it, with the lives that it knows then, and a front of it to where a
