@@ -97,14 +97,14 @@ class LogFile:
         front = self.reader.front
         if front[:2] != wanted[:2] and self.wrong != "ignores":
             raise NoLog("site %d of %d" % (front.own, front.sites))
-        if front[2:5] != wanted[2:5]:
-            raise NoLog("other limits")
+        if any(has > most for has, most in zip(front[2:5], wanted[2:5])):
+            raise NoLog("larger limits")
         for place, body in groups:
             try:
                 for thing in things_of(body):
                     self.replay(thing)
             except (ValueError, KeyError, AssertionError):
-                raise NoLog("fits no site", place) from None
+                raise NoLog("doesn't fit the site", place) from None
         self.place, self.number, self.room = len(self.reader.text), self.reader.number, len(data)
         if data[self.place:].strip(b"\0") and self.wrong != "leaves":
             os.pwrite(self.fd, bytes(len(data) - self.place), self.place)

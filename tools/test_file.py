@@ -11,8 +11,9 @@ the file is read here, byte by byte (`log_file.py`). It is seen that
 - the next server serves just what the file holds, with no session open;
 - a server that is killed while it makes its file, or reads it, leaves a file that opens;
 - a file opens whose end a crash tore, and one whose end was cut off or made zero, with what stands before;
-- what is no log, or is damaged, or another site's, is told by name and place, and is left byte for byte as it was; so is a file
-  that another server holds;
+- a file opens that was begun under smaller limits, and keeps what it says first;
+- what is no log, or is damaged, or another site's, or of larger limits, is told by name and place, and is left byte for byte as it
+  was; so is a file that another server holds;
 - a server whose file can't grow ends, and nothing that it told is lost.
 
 Clients ask by turns, and without waiting. Each wait has an end, and the whole run ends after fifteen minutes at the latest. Nothing is
@@ -334,7 +335,7 @@ def is_refused(program, folder, data, why, words=()):
 
 
 def test_foreign_files(program, folder, data):
-    """Files that are no log, no log of this version, or another site's."""
+    """Files that are no log, no log of this version, another site's, or of larger limits."""
     front = log_file.read_front(log_file.entry_at(data, 0)[0])
     no_logs = [b"kept\n" * 2000, b"x", bytes(10) + b"x" + bytes(200), b"tardislg", b"\0\0\0\x04\0\1\1\0" * 600, bytes(range(256)) * 40,
                b"\1\0\0\0\4\0\1\1\0\0", data[:40], data[1:], log_file.entry(b"another" + bytes(60)) + bytes(5000)]
@@ -348,9 +349,22 @@ def test_foreign_files(program, folder, data):
     for words in (["--sites", "2"], ["--sites", "2", "--site", "2"]):
         is_refused(program, folder, data, "site 1 of 1", words)
     is_refused(program, folder, log_bytes(front._replace(sites=3, own=2), []), "site 2 of 3")
-    for other in (front._replace(most_kept=64), front._replace(most_pairs=10), front._replace(most_sessions=4)):
-        is_refused(program, folder, log_bytes(other, []), "other limits")
+    for larger in (front._replace(most_kept=16_385), front._replace(most_pairs=4_097), front._replace(most_sessions=257)):
+        is_refused(program, folder, log_bytes(larger, []), "larger limits")
     print("%d files that are no log of this site were refused" % (len(no_logs) + 8), flush=True)
+
+
+def test_limits(program, folder, data):
+    """Files that were begun under smaller limits are served whole, and keep what they say first."""
+    groups, reader = groups_of(data)
+    bodies = [body for _, body in groups]
+    records = sum(isinstance(thing, Record) for body in bodies for thing in things_of(body))
+    for smaller in ({"most_kept": 1}, {"most_pairs": 1}, {"most_sessions": 1}, {"most_kept": 1, "most_pairs": 1, "most_sessions": 1}):
+        front = reader.front._replace(**smaller)
+        path = copy_of(folder, log_bytes(front, bodies))
+        assert_serves(program, path, records)
+        assert log_file.read_front(log_file.entry_at(bytes_of(path), 0)[0]) == front, "the file says something else first"
+    print("4 files of smaller limits were served", flush=True)
 
 
 def test_damage(program, folder, data, choose):
@@ -371,13 +385,13 @@ def test_damage(program, folder, data, choose):
             is_refused(program, folder, changed, "damaged at byte %d" % where)
             count += 1
         if all(isinstance(things_of(body)[0], Record) for body in bodies[number:number + 2]):
-            is_refused(program, folder, log_bytes(reader.front, bodies), "fits no site at byte %d" % place)
+            is_refused(program, folder, log_bytes(reader.front, bodies), "doesn't fit the site at byte %d" % place)
             count += 1
     text = len(reader.text)
     strange = [b"\xf7", log_file.thing_spelling(Collection(1)) + b"\4", b"\3\0\0\0\0", log_file.thing_spelling(Record((1, 9), ((0, 0),), {}))]
     for body in strange:
         made = data[:text] + log_file.entry(log_file.group_item(life, len(groups), body)) + bytes(4096)
-        is_refused(program, folder, made, "fits no site at byte %d" % text)
+        is_refused(program, folder, made, "doesn't fit the site at byte %d" % text)
     is_refused(program, folder, data[:text] + b"\xf7" + bytes(10) + b"x" + bytes(4096), "damaged at byte %d" % text)
     is_refused(program, folder, data[:text] + bytes(2_097_160) + b"x" + bytes(4096), "damaged at byte %d" % text)
     print("%d damaged files were refused" % (count + len(strange) + 2), flush=True)
@@ -464,6 +478,7 @@ def main():
         data = small_log(program, folder, choose)
         test_ends(program, folder, data, choose)
         test_foreign_files(program, folder, data)
+        test_limits(program, folder, data)
         test_damage(program, folder, data, choose)
         test_held(program, folder, data)
         test_kills(program, folder, kills, choose)

@@ -5,3 +5,4 @@ pub mod Parents
 pub mod Steps
 pub mod Named
 pub mod Waiting
+pub mod Marked

@@ -27,7 +27,7 @@ take-suc [] i x e = absurd (none-some x e)
 take-suc (y ∷ xs) zero x e = ap (λ z. z ∷ []) (same_Some y x e)
 take-suc (y ∷ xs) (suc i) x e = ap (λ zs. y ∷ zs) (take-suc xs i x e)
 
-got-is_among : (xs : List StateId) (i : ℕ) (x : StateId) → slice_get xs i ≡ Some x → IsTrue (is_among x xs)
+pub got-is_among : (xs : List StateId) (i : ℕ) (x : StateId) → slice_get xs i ≡ Some x → IsTrue (is_among x xs)
 got-is_among [] i x e = absurd (none-some x e)
 got-is_among (y ∷ xs) zero x e = subst (λ z. IsTrue (is_among z (y ∷ xs))) (same_Some y x e) (among-first y xs)
 got-is_among (y ∷ xs) (suc i) x e = among-later x y xs (got-is_among xs i x e)

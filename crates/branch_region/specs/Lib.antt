@@ -2,3 +2,4 @@
 pub mod Regions
 pub mod Slots
 pub mod Walks
+pub mod Marks

@@ -11,6 +11,7 @@ ghost use Rattle.state_dag.specs.Stands.{Stands};
 ghost use Rattle.branch_region.specs.Regions.{is_above_part, apart_states, shared_states};
 
 mod asked;
+mod marks;
 mod older;
 mod parts;
 mod walks;
@@ -27,8 +28,8 @@ use walks::{Step, Walk};
 ///
 /// It is found by going up from the states along parents, so the cost grows with the number of states that are answered and
 /// their parents and the logarithm of the number of kept states; for each of them an ancestry is asked for each of the
-/// states, at the cost of `StateDag::is_ancestor`. Where a state apart has a collected parent, all kept states that arrived
-/// before it are asked too, and their children.
+/// states, at the cost of `StateDag::is_ancestor`. Where a state apart has a collected parent, all kept states and their
+/// children are gone over besides, once for each of the states and with no ancestry; that takes three bytes for each slot.
 pub fn region(alloc: Global, dag: &StateDag, states: &[Slot]) -> Result<Region, NoMemory>
     requires { IsTrue (list_all (is_slot dag.now) states.now) }
     ensures slots { IfOk result (λ region. IsTrue (list_all (is_slot dag.now) region.apart.items) × IsTrue (list_all (is_slot dag.now) region.shared.items)) }

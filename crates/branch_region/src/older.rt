@@ -10,13 +10,14 @@ ghost use Rattle.state_dag.specs.Stands.{Stands};
 ghost use Rattle.branch_region.specs.Regions.{is_above_part, is_last_shared};
 ghost use Rattle.branch_region.specs.Walks.{is_until};
 
-use crate::asked::{is_above_part, is_last_shared};
+use crate::marks::Marks;
 use crate::parts::Region;
 use state_dag::StateDag;
 use std::alloc::Global;
 use tardis_base::{NoMemory, Slot};
 
-/// What of the region of these states arrived before the one of this number. Each kept state is tried.
+/// What of the region of these states arrived before the one of this number. Each kept state is tried, by its
+/// marks.
 pub(crate) fn older(
     alloc: Global,
     dag: &StateDag,
@@ -34,15 +35,16 @@ pub(crate) fn older(
         → IfOk result (λ region. map (id_at dag.now) region.shared.items
         ≡ map (λ x. Some x) (filter (is_until rs bound (is_last_shared rs xs)) (kept_states rs ks))) }
 {
+    let marks = Marks::of(alloc, dag, states)?;
     let mut apart = Vec::new(alloc);
     let mut shared = Vec::new(alloc);
     for slot in dag.kept_slots() {
         if bound <= dag.arrival(*slot) {
             return Ok(Region { apart, shared });
         }
-        if is_above_part(dag, *slot, states) {
+        if marks.is_above_part(*slot) {
             apart.push(*slot)?;
-        } else if is_last_shared(dag, *slot, states) {
+        } else if marks.is_last_shared(dag, *slot, states) {
             shared.push(*slot)?;
         }
     }

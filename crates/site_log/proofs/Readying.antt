@@ -19,7 +19,7 @@ use Rattle.site_log.specs.Files.{text_of, IsAtRest, OpenFile}
 use Rattle.site_log.specs.Resumes.{file_at}
 use Rattle.site_log.specs.Stood.{Stands}
 use Rattle.site_log.specs.Replays.{ending_of, Replayed}
-use Rattle.site_log.specs.Reads.{IsWanted, Refuses}
+use Rattle.site_log.specs.Reads.{HasLimitsWithin, IsWanted, Refuses}
 use Rattle.site_log.specs.News.{IsNew}
 use Rattle.site_log.specs.Opens.{Finds, MayBecome, OpeningLeaves, WasRead, NotTaken, IsRefused, IsOpened}
 use Rattle.site_log.specs.Readies.{IsLoaded, DiskEnd, HasLog, IsBegun, IsReady}
@@ -72,12 +72,15 @@ module _ {M : Type 0} (m : AResting M) (old : M) (bytes : List ℕ) (wanted : Lo
   pub no_disk : (end : OpenEnd) → Refuses m old bytes wanted end → end ≡ Disk → ⊥
   no_disk end r is = subst (Refuses m old bytes wanted) is r
 
+within_itself : (front : LogFront) → HasLimitsWithin front front
+within_itself front = (omega arith, omega arith, omega arith)
+
 -- a new file's front is the wanted one
 pub begun_wanted : {K : Type 0} (k : ADisk K) (disk now : K) (wanted : LogFront) (ready : Ready) → IsBegun k disk now wanted ready
     → IsWanted ready.found.front wanted × (ready.found.is_new ≡ true → ready.found.front ≡ wanted)
 begun_wanted k disk now wanted ready b =
     let same : ready.found.front ≡ wanted = ap (λ (f : FoundLog). f.front) b.found in
-    (subst (λ f. IsWanted f wanted) (sym same) ((refl, refl), (refl, refl, refl)), λ is. same)
+    (subst (λ f. IsWanted f wanted) (sym same) ((refl, refl), within_itself wanted), λ is. same)
 
 module _ {M K : Type 0} (m : AResting M) (k : ADisk K) where
   -- the disk failed, or there was no memory, and then nothing was done

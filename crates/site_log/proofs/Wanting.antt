@@ -11,7 +11,7 @@ use Rattle.site_log.specs.declared.ends.OpenEnd.TheVariants.{NotALog, OtherVersi
 use Rattle.site_log.specs.declared.replays.Found.{Found}
 use Rattle.site_log.specs.Files.{text_of}
 use Rattle.site_log.specs.Replays.{GroupsEnd}
-use Rattle.site_log.specs.Reads.{IsSameSite, HasSameLimits, IsWanted, Compares, HasFront, WantedEnd, Refuses}
+use Rattle.site_log.specs.Reads.{IsSameSite, HasLimitsWithin, IsWanted, Compares, HasFront, WantedEnd, Refuses}
 
 -- a front that was read, and the bytes that it has
 pub record Begins (bytes : List ℕ) (front : LogFront) (size : ℕ) : Type 0 where
@@ -77,7 +77,7 @@ module _ {M : Type 0} (m : AResting M) (old : M) (bytes : List ℕ) (front wante
   refuses has (OtherLimits other) e = (
     subst (HasFront bytes) (sym e.0) has,
     subst (λ z. IsSameSite z wanted) (sym e.0) e.1,
-    subst (λ z. HasSameLimits z wanted → ⊥) (sym e.0) e.2,
+    subst (λ z. HasLimitsWithin z wanted → ⊥) (sym e.0) e.2,
   )
   refuses has (Damaged place) e = (front, (has, e.0, e.1))
   refuses has (Unfit place) e = (front, (has, e.0, e.1))

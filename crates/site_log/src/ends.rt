@@ -14,7 +14,7 @@ pub enum OpenEnd {
     BadFront,
     /// It is another site's log, which says this first.
     OtherSite(LogFront),
-    /// It is this site's log, and its limits are others: it says this first.
+    /// It is this site's log, and one of its limits is larger than the wanted one: it says this first.
     OtherLimits(LogFront),
     /// What stands at this place is neither the next group nor what a crash leaves.
     Damaged(u64),

@@ -52,9 +52,10 @@ pub struct NotOpened<K: BytewiseDisk> {
     pub disk: K,
 }
 
-/// Opens the wanted log on a disk, and has a machine take back the bodies of its groups, in order. The log has to be the wanted one in
-/// all but its life. A new file gets the wanted front: one without bytes, of zeros alone, or with a front that a crash left in part.
-/// What a crash left behind the last group is mended. Only where this is on the disk the log is handed out.
+/// Opens the wanted log on a disk, and has a machine take back the bodies of its groups, in order. The log has to be the wanted site's,
+/// of whatever life, with none of its limits larger than the wanted one, and it keeps its front. A new file gets the wanted front: one
+/// without bytes, of zeros alone, or with a front that a crash left in part. What a crash left behind the last group is mended. Only
+/// where this is on the disk the log is handed out.
 ///
 /// A refused file isn't written to, and neither is one for which there is too little memory. All bytes of the file are read into
 /// memory, and their room is given back at the end; about 5 MiB are taken beside them, of which the log keeps 3.

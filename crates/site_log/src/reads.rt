@@ -14,8 +14,8 @@ use std::alloc::Global;
 use tardis_base::NoMemory;
 
 /// Reads a log from all bytes of its file, and has a machine take back the bodies of its groups, in order. The log has to be the
-/// wanted one in all but its life. After a refusal the machine may have taken some of the bodies. The cost grows with the bytes; at
-/// most about 2 MiB of memory are taken, for one item.
+/// wanted site's, of whatever life, with none of its limits larger than the wanted one. After a refusal the machine may have taken some
+/// of the bodies. The cost grows with the bytes; at most about 2 MiB of memory are taken, for one item.
 pub fn read_log<M: Resting>(
     alloc: Global,
     machine: &mut M,
@@ -63,7 +63,7 @@ fn take_wanted<M: Resting>(
     }
 }
 
-/// Whether a log is the wanted one: of this site, with these limits.
+/// Whether a log is the wanted one: of this site, with limits that are no larger.
 fn compare(front: &LogFront, wanted: &LogFront) -> Result<(), OpenEnd>
     ensures { Compares front.now wanted.now result }
 {
@@ -73,13 +73,13 @@ fn compare(front: &LogFront, wanted: &LogFront) -> Result<(), OpenEnd>
     if front.own != wanted.own {
         return Err(OpenEnd::OtherSite(*front));
     }
-    if front.max_kept != wanted.max_kept {
+    if front.max_kept > wanted.max_kept {
         return Err(OpenEnd::OtherLimits(*front));
     }
-    if front.max_path != wanted.max_path {
+    if front.max_path > wanted.max_path {
         return Err(OpenEnd::OtherLimits(*front));
     }
-    if front.max_sessions != wanted.max_sessions {
+    if front.max_sessions > wanted.max_sessions {
         return Err(OpenEnd::OtherLimits(*front));
     }
     Ok(())

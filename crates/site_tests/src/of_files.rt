@@ -10,7 +10,7 @@ use crate::file_rows::{
 use crate::of_site_journal::CRASHES;
 use crate::of_tardisd_main::words_of;
 use crate::sites::keys;
-use crate::talks::{Talk, copied};
+use crate::talks::{Talk, bytes_of, copied, put};
 use command_words::DaemonPlan;
 use disk_forms::{MemoryDisk, MemoryStore};
 use hub::{Connection, Ports, Ready};
@@ -264,6 +264,32 @@ fn a_torn_group_is_left_out_and_a_damaged_file_is_told(rt: HostRuntime) {
     *bytes.get_mut(0).expect(&rt, "a byte") = b'x';
     let (found, end) = found_in(&rt, rt.alloc(), bytes.as_slice());
     assert!(rt; found.is_none() && end == DaemonEnd::File(FileFault::NotALog));
+}
+
+/// What the log of a site alone says first under which one state may be kept, and what that of one under which 65,000 may.
+const OF_ONE_STATE: &str =
+    "7461726469736c67f501f501f501f5f5f501f5f510f501f507070707070707070707070707070707f47e87176a355c46f7";
+
+const OF_MORE_STATES: &str =
+    "7461726469736c67f501f501f501f5f5fde8f5f510f501f50707070707070707070707070707070778f12fd76b8b1eebf7";
+
+/// A log opens under larger limits, keeps its front, and is opened again with what it has then. Under smaller ones it is refused, and
+/// left as it is.
+#[test]
+fn a_log_opens_under_limits_that_are_no_smaller(rt: HostRuntime) {
+    let front = bytes_of(&rt, rt.alloc(), OF_ONE_STATE);
+    let mut begun = copied(&rt, rt.alloc(), front.as_slice());
+    put(&rt, &mut begun, &[0; 4000]);
+    let bytes = after(&rt, rt.alloc(), ALONE, &[TWO_COMMITS], begun.as_slice());
+    assert!(rt; bytes.as_slice().starts_with(front.as_slice()));
+    let (found, _) = found_in(&rt, rt.alloc(), bytes.as_slice());
+    let found = found.expect(&rt, "a site");
+    assert!(rt; found.known == 3 && found.kept == 3 && found.groups == 3 && !found.is_new);
+    let front = bytes_of(&rt, rt.alloc(), OF_MORE_STATES);
+    let talk = Talk::new(rt.alloc());
+    let life = live(&rt, rt.alloc(), ALONE, &talk, front.as_slice(), &[]);
+    assert!(rt; life.end == DaemonEnd::File(FileFault::OtherLimits));
+    assert!(rt; life.disk.bytes() == front.as_slice());
 }
 
 /// How many commits were told: in these replies only the one to a commit has a byte 8.

@@ -39,11 +39,11 @@ pub enum FileFault {
     BadFront,
     /// It is the log of the site at this other place.
     OtherSite(Place),
-    /// It is the log of a site with other limits.
+    /// It is the log of a site with larger limits.
     OtherLimits,
     /// What stands at this place is neither the next group nor what a crash leaves.
     Damaged(u64),
-    /// What the group at this place says doesn't fit the site that those before it lead to.
+    /// What the group at this place says doesn't fit the site that those before it lead to, under its limits.
     Unfit(u64),
 }
 
@@ -178,7 +178,7 @@ impl fmt::Display for FileFault {
             ),
             FileFault::OtherLimits => write!(
                 f,
-                "the file is that of a site with other limits, and was left as it is: start the program that wrote it"
+                "the file is that of a site with larger limits, and was left as it is: start it with limits that are as large"
             ),
             FileFault::Damaged(place) => write!(
                 f,
@@ -186,7 +186,7 @@ impl fmt::Display for FileFault {
             ),
             FileFault::Unfit(place) => write!(
                 f,
-                "the file has what fits no site at byte {place}; it was left as it is: restore a copy of it"
+                "the file has what doesn't fit the site at byte {place}; it was left as it is: start it with the limits that it had, or restore a copy of it"
             ),
         }
     }

@@ -11,6 +11,7 @@ use Rattle.plain_dag.proofs.Rising.{kept-rise}
 use Rattle.branch_region.proofs.Orders.{until-is, until-front}
 use Rattle.branch_region.proofs.Named.{named-next, named-length, passing-more, passing-same, all-got, all-more}
 use Rattle.branch_region.proofs.Told.{part-told, part-isnt_last}
+use Rattle.branch_region.proofs.Marked.{part-marked}
 use Rattle.branch_region.proofs.older.older.Goals as goal
 use Rattle.branch_region.proofs.older.older.Goals.{then-is_above_part+in_ok-push, else-is_above_part+then-is_last_shared+in_ok-push-2}
 use Rattle.branch_region.proofs.older.older.Goals.{else-is_above_part+else-is_last_shared}
@@ -24,12 +25,8 @@ loop-slot-init c =
       both = λ rs ks stands xs are. (ap (map (id_at table)) c.new-apart.ensures.items, ap (map (id_at table)) c.new-shared.ensures.items);
     }
 
-pub is_above_part-requires-clause-slot : goal.is_above_part-requires-clause-slot
-is_above_part-requires-clause-slot c = all-got (is_slot c.args.dag.now) c.kept_slots-slot-items.result.now c.loop-slot.slot-index (record { 0 = 0 })
-    c.kept_slots-slot-items.ensures.slots c.loop-slot-test.true
-
-pub is_last_shared-requires-clause-slot : goal.is_last_shared-requires-clause-slot
-is_last_shared-requires-clause-slot c = all-got (is_slot c.args.dag.now) c.kept_slots-slot-items.result.now c.loop-slot.slot-index (record { 0 = 0 })
+pub is_last_shared-requires : goal.is_last_shared-requires
+is_last_shared-requires c = all-got (is_slot c.args.dag.now) c.kept_slots-slot-items.result.now c.loop-slot.slot-index (record { 0 = 0 })
     c.kept_slots-slot-items.ensures.slots c.loop-slot-test.true
 
 pub returns-then-bound-arrival-clause-slots : goal.returns-then-bound-arrival-clause-slots
@@ -77,8 +74,9 @@ loop-slot-preserved c =
             let at = c.arrival.ensures.arrival rs ks stands n.state n.named in
             let lt : arrival rs n.state < c.args.bound = (let l = c.if-bound-arrival.false in omega arith) in
             let was = before.both rs ks stands xs are in
+            let marks = c.in_ok-marks.ensures rs ks stands in
             let part = sym (part-told table rs ks stands (get_or items i d) n.state n.named c.args.states.now xs are)
-            ∙ (sym c.is_above_part.ensures ∙ w.if-is_above_part.true) in
+            ∙ (sym (part-marked table c.args.states.now c.in_ok-marks.marks marks (get_or items i d) is_one) ∙ (sym c.is_above_part.ensures ∙ w.if-is_above_part.true)) in
             let p : StateId → Bool = λ x. is_above_part rs x xs in (
               subst (λ (v : Vec Slot Global). map (id_at table) v.items
                   ≡ map (λ x. Some x) (filter (is_until rs c.args.bound p) (take (i + 1) (kept_states rs ks)))) (sym w.apart-is)
@@ -101,9 +99,10 @@ loop-slot-preserved c =
             let at = c.arrival.ensures.arrival rs ks stands n.state n.named in
             let lt : arrival rs n.state < c.args.bound = (let l = c.if-bound-arrival.false in omega arith) in
             let was = before.both rs ks stands xs are in
+            let marks = c.in_ok-marks.ensures rs ks stands in
             let part = sym (part-told table rs ks stands (get_or items i d) n.state n.named c.args.states.now xs are)
-            ∙ (sym c.is_above_part.ensures ∙ w.if-is_above_part.false) in
-            let last = sym (w.is_last_shared.ensures rs ks stands n.state n.named xs are) ∙ w.if-is_last_shared.true in
+            ∙ (sym (part-marked table c.args.states.now c.in_ok-marks.marks marks (get_or items i d) is_one) ∙ (sym c.is_above_part.ensures ∙ w.if-is_above_part.false)) in
+            let last = sym (w.is_last_shared.ensures rs ks stands marks n.state n.named xs are) ∙ w.if-is_last_shared.true in
             let p : StateId → Bool = λ x. is_above_part rs x xs in (
               subst (λ (v : Vec Slot Global). map (id_at table) v.items
                   ≡ map (λ x. Some x) (filter (is_until rs c.args.bound p) (take (i + 1) (kept_states rs ks)))) (sym w.apart-is)
@@ -124,9 +123,10 @@ loop-slot-preserved c =
             let at = c.arrival.ensures.arrival rs ks stands n.state n.named in
             let lt : arrival rs n.state < c.args.bound = (let l = c.if-bound-arrival.false in omega arith) in
             let was = before.both rs ks stands xs are in
+            let marks = c.in_ok-marks.ensures rs ks stands in
             let part = sym (part-told table rs ks stands (get_or items i d) n.state n.named c.args.states.now xs are)
-            ∙ (sym c.is_above_part.ensures ∙ w.if-is_above_part.false) in
-            let last = sym (w.is_last_shared.ensures rs ks stands n.state n.named xs are) ∙ w.if-is_last_shared.false in
+            ∙ (sym (part-marked table c.args.states.now c.in_ok-marks.marks marks (get_or items i d) is_one) ∙ (sym c.is_above_part.ensures ∙ w.if-is_above_part.false)) in
+            let last = sym (w.is_last_shared.ensures rs ks stands marks n.state n.named xs are) ∙ w.if-is_last_shared.false in
             let p : StateId → Bool = λ x. is_above_part rs x xs in (
               subst (λ (v : Vec Slot Global). map (id_at table) v.items
                   ≡ map (λ x. Some x) (filter (is_until rs c.args.bound p) (take (i + 1) (kept_states rs ks)))) (sym w.apart-is)
