@@ -45,7 +45,7 @@ not_opened NotALog = File IsNoLog
 not_opened (OtherVersion version) = File (IsOtherVersion version)
 not_opened BadFront = File HasBadFront
 not_opened (OtherSite front) = File (IsOtherSite (record { sites = front.sites; site = front.own }))
-not_opened (OtherLimits front) = File HasOtherLimits
+not_opened (OtherLimits front) = File (HasOtherLimits front.max_kept front.max_sessions)
 not_opened (Damaged place) = File (IsDamagedAt place)
 not_opened (Unfit place) = File (IsUnfitAt place)
 not_opened NoMemory = WantedMemory

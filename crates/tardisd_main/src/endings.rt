@@ -39,8 +39,11 @@ pub enum FileFault {
     BadFront,
     /// It is the log of the site at this other place.
     OtherSite(Place),
-    /// It is the log of a site with larger limits.
-    OtherLimits,
+    /// It is the log of a site with larger limits: it keeps so many states, or has so many sessions open.
+    OtherLimits {
+        states: u32,
+        sessions: u16,
+    },
     /// What stands at this place is neither the next group nor what a crash leaves.
     Damaged(u64),
     /// What the group at this place says doesn't fit the site that those before it lead to, under its limits.
@@ -93,7 +96,7 @@ impl FileFault {
             | FileFault::OtherVersion(_)
             | FileFault::BadFront
             | FileFault::OtherSite(_)
-            | FileFault::OtherLimits
+            | FileFault::OtherLimits { .. }
             | FileFault::Damaged(_)
             | FileFault::Unfit(_) => 13,
         }
@@ -176,9 +179,9 @@ impl fmt::Display for FileFault {
                 f,
                 "the file is that of site {site} of {sites}, and was left as it is: start it with --sites {sites} --site {site}"
             ),
-            FileFault::OtherLimits => write!(
+            FileFault::OtherLimits { states, sessions } => write!(
                 f,
-                "the file is that of a site with larger limits, and was left as it is: start it with limits that are as large"
+                "the file is that of a site with larger limits, and was left as it is: start it with --states {states} --sessions {sessions}, or more of either"
             ),
             FileFault::Damaged(place) => write!(
                 f,

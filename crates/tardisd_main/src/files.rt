@@ -209,7 +209,10 @@ fn end_of(end: OpenEnd) -> DaemonEnd
             sites: front.sites,
             site: front.own,
         }),
-        OpenEnd::OtherLimits(_) => FileFault::OtherLimits,
+        OpenEnd::OtherLimits(front) => FileFault::OtherLimits {
+            states: front.max_kept,
+            sessions: front.max_sessions,
+        },
         OpenEnd::Damaged(place) => FileFault::Damaged(place),
         OpenEnd::Unfit(place) => FileFault::Unfit(place),
     };
