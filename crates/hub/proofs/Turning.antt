@@ -242,7 +242,7 @@ missed w from to old new slot tally before after same unchanged within was tells
         stands = same keeps.state keeps.stands;
         served = ((omega (arith, within, keeps.slots), free), (λ n. each_talk (talk n turns) (connection_at new n) (fits n), keeps.served));
         fits = fits;
-        slots = ap (λ c. length c) unchanged ∙ keeps.slots;
+        slots = ap (λ (c : List (Option ConnectionState)). length c) unchanged ∙ keeps.slots;
         many = keeps.many;
         went = keeps.went;
       };
@@ -268,7 +268,7 @@ turned_away w from to old new slot tally before after same unchanged within was 
         stands = same keeps.state keeps.stands;
         served = ((slot, omega (arith, within, keeps.slots), free), (λ n. each_talk (talk n turns) (connection_at new n) (fits n), keeps.served));
         fits = fits;
-        slots = ap (λ c. length c) unchanged ∙ keeps.slots;
+        slots = ap (λ (c : List (Option ConnectionState)). length c) unchanged ∙ keeps.slots;
         many = keeps.many;
         went = keeps.went;
       };

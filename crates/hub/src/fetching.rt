@@ -12,7 +12,7 @@ ghost use Rattle.hub.specs.Peers.{Asks, carried_out};
 ghost use Rattle.hub.specs.Keeping.{FetchesOn, PeerTurned, PeerWaits, HasPeerWaiting};
 
 use crate::noting::Noting;
-use crate::ports::{Scope, PeerNews, Ports};
+use crate::ports::{PeerNews, Ports, Scope};
 use crate::turns::settle_owed;
 use crate::upkeeps::Tally;
 use rest_machine::Settling;

@@ -10,7 +10,7 @@ ghost use Rattle.hub.specs.Runs.{close, IsRun};
 
 use crate::connections::Connection;
 use crate::fetching::fresh_peers;
-use crate::ports::{Scope, Ports};
+use crate::ports::{Ports, Scope};
 use crate::turns::{Outcome, turn};
 use crate::upkeeps::{Tally, Upkeep, keep_up};
 use rest_machine::Settling;

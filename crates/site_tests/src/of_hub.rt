@@ -231,16 +231,12 @@ fn what_a_door_doesnt_let_in_is_answered_there(rt: HostRuntime) {
     let mut machine = Guarded { owing };
     // what only the second door's connection asks changes nothing, so nothing is to be settled
     let mut ports = edge_of(&rt, rt.alloc(), b"+-bB");
-    let end = serve(rt.alloc(), &mut machine, &mut ports, None, SCOPE).expect(
-        &rt, "memory",
-    );
+    let end = serve(rt.alloc(), &mut machine, &mut ports, None, SCOPE).expect(&rt, "memory");
     assert!(rt; end == End::Stopped && machine.owing.settles == 0);
     assert!(rt; is_told(ports.seen().expect(&rt, "memory"), 1, 9));
     drop(ports);
     let mut ports = edge_of(&rt, rt.alloc(), b"+-abAB");
-    let end = serve(rt.alloc(), &mut machine, &mut ports, None, SCOPE).expect(
-        &rt, "memory",
-    );
+    let end = serve(rt.alloc(), &mut machine, &mut ports, None, SCOPE).expect(&rt, "memory");
     assert!(rt; end == End::Stopped && machine.owing.settles == 1);
     assert!(rt; is_told(ports.seen().expect(&rt, "memory"), 0, 7));
     assert!(rt; is_told(ports.seen().expect(&rt, "memory"), 1, 9));
@@ -320,14 +316,7 @@ fn upkeeps_of(rt: &impl Abort, alloc: Global, left: u8, reads: &[(u8, u16)]) -> 
     let machine = Slicing { left, made: 0 };
     let mut machine = InMemory { machine };
     let mut ports = reads_of(rt, alloc, reads);
-    let end = serve(
-        alloc,
-        &mut machine,
-        &mut ports,
-        Some(upkeep),
-        SCOPE,
-    )
-    .expect(rt, "memory");
+    let end = serve(alloc, &mut machine, &mut ports, Some(upkeep), SCOPE).expect(rt, "memory");
     assert!(rt; end == End::Stopped);
     drop(ports);
     machine.machine.made

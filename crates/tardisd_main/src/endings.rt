@@ -40,10 +40,7 @@ pub enum FileFault {
     /// It is the log of the site at this other place.
     OtherSite(Place),
     /// It is the log of a site with larger limits: it keeps so many states, or has so many sessions open.
-    OtherLimits {
-        states: u32,
-        sessions: u16,
-    },
+    OtherLimits { states: u32, sessions: u16 },
     /// What stands at this place is neither the next group nor what a crash leaves.
     Damaged(u64),
     /// What the group at this place says doesn't fit the site that those before it lead to, under its limits.

@@ -106,13 +106,7 @@ pub(crate) fn serve_alive<M: Settling, P: Ports>(
     ensures opening { M.opening machine.new ≡ M.opening machine.old }
 {
     match begin_life(alloc, machine, life) {
-        Ok(()) => serve(
-            alloc,
-            machine,
-            ports,
-            upkeep_of(plan.tidy),
-            scope_of(plan),
-        ),
+        Ok(()) => serve(alloc, machine, ports, upkeep_of(plan.tidy), scope_of(plan)),
         Err(NoMemory) => Err(NoMemory),
     }
 }
