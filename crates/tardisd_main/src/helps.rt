@@ -44,10 +44,10 @@ doors: --listen ADDR        all that there is may be asked
        --idle SECONDS       a connection that asks nothing for so long, from 1 to
                             86400, is ended
 
-room:  --connections N      for so many at once, at all doors together, from 1 to
-                            4096 (256); a further one is told so and ended
-       --sessions N         for so many that are open at once, from 1 to 4096 (256)
-       --states N           for so many that are kept, from 1 to 65000 (16384)
+room:  --connections N      so many connections at once, at all doors together,
+                            from 1 to 4096 (256); one more is told so and ended
+       --sessions N         so many open sessions, from 1 to 4096 (256)
+       --states N           so many kept states, from 1 to 65000 (16384)
 
 peers: --peer ADDR          fetch what is new from the site at this address, a
                             door for all or for peers, at most 15 times
