@@ -349,9 +349,10 @@ def test_foreign_files(program, folder, data):
     for words in (["--sites", "2"], ["--sites", "2", "--site", "2"]):
         is_refused(program, folder, data, "site 1 of 1", words)
     is_refused(program, folder, log_bytes(front._replace(sites=3, own=2), []), "site 2 of 3")
-    for larger in (front._replace(most_kept=16_385), front._replace(most_pairs=4_097), front._replace(most_sessions=257)):
-        is_refused(program, folder, log_bytes(larger, []), "larger limits")
-    print("%d files that are no log of this site were refused" % (len(no_logs) + 8), flush=True)
+    for larger, words in ((front._replace(most_kept=16_385), []), (front._replace(most_sessions=257), []), (front, ["--states", "16383"]),
+                          (front, ["--sessions", "255"]), (front._replace(most_kept=65_000, most_sessions=4096), ["--states", "64999", "--sessions", "4096"])):
+        is_refused(program, folder, log_bytes(larger, []), "start it with --states %d --sessions %d," % (larger.most_kept, larger.most_sessions), words)
+    print("%d files that are no log of this site were refused" % (len(no_logs) + 10), flush=True)
 
 
 def test_limits(program, folder, data):

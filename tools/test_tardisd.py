@@ -30,14 +30,12 @@ TARDISD = os.path.join(TOP, "tardisd")
 TARDIS = os.path.join(TOP, "tardis")
 LONGEST_FRAME = 1_048_576
 
-OPEN, BEGIN, CLOSE = b"\x01\x00", b"\x02\x00", b"\x15"
+OPEN, BEGIN, ABORT, CLOSE, ABOUT = b"\x01\x00", b"\x02\x00", b"\x07", b"\x15", b"\x46"
 OPEN_FOLLOWING, STAT = b"\x01\x01", b"\x10"
 RAISE_AUTO, PULL = b"\x0e", b"\x13\x01" + bytes(4)
 COMMIT, COMMIT_FREELY = b"\x06\x01\x00\x00", b"\x06\x00\x00\x00"
 OPENED, BEGUN = b"\x01" + bytes(6), b"\x02" + bytes(6)
-DONE = b"\x07"
-# Refused, SessionsFull, 256
-FULL = b"\x15\x04\x01\x00"
+DONE, CLOSED = b"\x07", b"\x14"
 
 
 def key(name):
@@ -54,6 +52,16 @@ def put(name, value):
 
 def state(site, sequence):
     return struct.pack(">HI", site, sequence)
+
+
+def sessions_full(count):
+    """Refused, SessionsFull."""
+    return b"\x15\x04" + struct.pack(">H", count)
+
+
+def full(count):
+    """Refused, Full."""
+    return b"\x15\x14" + struct.pack(">I", count)
 
 
 def frame(body):
@@ -147,7 +155,8 @@ class Words(unittest.TestCase):
     def test_help_and_version(self):
         status, told, line = run_words("--help")
         self.assertEqual((status, line), (0, ""))
-        for word in ("--listen ADDR", "--clients ADDR", "--peers ADDR", "--mode MODE", "--idle SECONDS", "--peer ADDR", "--every SECONDS"):
+        for word in ("--listen ADDR", "--clients ADDR", "--peers ADDR", "--mode MODE", "--idle SECONDS", "--connections N", "--sessions N",
+                     "--states N", "--peer ADDR", "--every SECONDS"):
             self.assertIn(word, told)
         for word in "-h", "help":
             self.assertEqual(run_words(word), (0, told, ""))
@@ -166,6 +175,12 @@ class Words(unittest.TestCase):
             status, told, line = run_words(*words)
             self.assertEqual((status, told), (1, ""), words)
             self.assertTrue(line.startswith("usage: tardisd --listen ADDR"), line)
+        for option, most in ("--states", 65_000), ("--sessions", 4096), ("--connections", 4096):
+            for words in ((option, "0"), (option, str(most + 1)), (option, "-1"), (option, "x"), (option, "99999999999"), (option,),
+                          (option, "2", option, "2")):
+                status, told, line = run_words("--listen", self.address, *words)
+                self.assertEqual((status, told), (1, ""), words)
+                self.assertTrue(line.startswith("usage: tardisd --listen ADDR"), line)
         self.assertEqual(os.listdir(self.folder), [])
 
     def is_refused(self, address, reason):
@@ -398,7 +413,7 @@ class Connections:
             # the floor may go to the start, where the one session's ceiling is, which holds it
             b"\x45" + start + bytes([0, 0, 0, 1, 0, 1, 0, 1, 0]) + start + one + b"\x00\x01",
             # version 1, the limits, site 1, which knows two states and keeps them
-            b"\x46" + struct.pack(">HHIIHQHQI", 1, 1, 16_384, 4_096, 256, 1 << 30, 1, 2, 2),
+            b"\x46" + struct.pack(">HHIIHQHQI", 1, 1, 16_384, 65_000, 256, 1 << 30, 1, 2, 2),
             b"\x15\x01"])
 
     def test_after_a_half_close_all_replies_come(self):
@@ -478,12 +493,12 @@ class Connections:
         for connection in held:
             self.assertEqual(ask(connection, OPEN), [OPENED])
         for _ in range(3):
-            self.assertEqual(read_to_end(self.connect()), frame(FULL))
+            self.assertEqual(read_to_end(self.connect()), frame(sessions_full(256)))
         self.assertEqual(ask(held[9], BEGIN), [BEGUN])
         held[100].close()
         self.assertEqual(ask(held[10], BEGIN), [BEGUN])
         self.assertEqual(ask(self.connect(), OPEN), [OPENED])
-        self.assertEqual(read_to_end(self.connect()), frame(FULL))
+        self.assertEqual(read_to_end(self.connect()), frame(sessions_full(256)))
 
     def test_three_thousand_connections_one_after_another(self):
         for place in range(3000):
@@ -514,6 +529,85 @@ class OverUnix(Connections, unittest.TestCase):
 class OverTcp(Connections, unittest.TestCase):
     def start(self):
         return Server("127.0.0.1:%d" % free_port())
+
+
+class Capacity(unittest.TestCase):
+    """Room for as much as the words say."""
+
+    def start(self, *words):
+        folder = tempfile.mkdtemp()
+        self.addCleanup(shutil.rmtree, folder)
+        server = Server("unix:" + os.path.join(folder, "s"), words)
+        self.addCleanup(server.end)
+        return server
+
+    def connect(self, server):
+        connection = server.connect()
+        self.addCleanup(connection.close)
+        return connection
+
+    def test_the_third_connection_of_two_is_told_so(self):
+        server = self.start("--connections", "2")
+        held = [self.connect(server), self.connect(server)]
+        for connection in held:
+            self.assertEqual(ask(connection, OPEN), [OPENED])
+        self.assertEqual(read_to_end(self.connect(server)), frame(sessions_full(2)))
+        self.assertEqual(ask(held[1], BEGIN), [BEGUN])
+        held[0].close()
+        self.assertEqual(ask(held[1], ABORT), [DONE])
+        self.assertEqual(ask(self.connect(server), OPEN), [OPENED])
+
+    def test_the_second_session_of_one_is_refused(self):
+        server = self.start("--sessions", "1", "--connections", "3")
+        first, second = self.connect(server), self.connect(server)
+        self.assertEqual(ask(first, OPEN, BEGIN), [OPENED, BEGUN])
+        self.assertEqual(ask(second, OPEN), [sessions_full(1)])
+        self.assertEqual(ask(first, ABORT, CLOSE), [DONE, CLOSED])
+        self.assertEqual(ask(second, OPEN, BEGIN), [OPENED, BEGUN])
+
+    def test_the_third_state_of_three_finds_no_room(self):
+        connection = self.connect(self.start("--states", "3"))
+        self.assertEqual(ask(connection, OPEN_FOLLOWING), [OPENED])
+        told = [ask(connection, BEGIN, put(b"x", b"1"), COMMIT)[2] for _ in range(3)]
+        self.assertEqual([reply[0] for reply in told[:2]], [8, 8])
+        self.assertEqual(told[2], full(3))
+
+    def test_each_number_is_that_of_its_option(self):
+        """About tells the limits that a site has."""
+        connection = self.connect(self.start("--states", "65000", "--sessions", "4096", "--connections", "1"))
+        told = b"\x46" + struct.pack(">HHIIHQHQI", 1, 1, 65_000, 65_000, 4_096, 1 << 30, 1, 1, 1)
+        self.assertEqual(ask(connection, ABOUT), [told])
+
+    def test_sessions_beyond_the_256th(self):
+        server = self.start("--connections", "700", "--sessions", "699")
+        held = [self.connect(server) for _ in range(700)]
+        for connection in held[:699]:
+            self.assertEqual(ask(connection, OPEN), [OPENED])
+        self.assertEqual(ask(held[699], OPEN), [sessions_full(699)])
+        self.assertEqual(read_to_end(self.connect(server)), frame(sessions_full(700)))
+        for connection in held[650:699]:
+            connection.close()
+        self.assertEqual(ask(held[649], BEGIN), [BEGUN])
+        for _ in range(49):
+            held.append(self.connect(server))
+            self.assertEqual(ask(held[-1], OPEN), [OPENED])
+
+    def test_idle_ones_are_ended_beside_one_that_asks(self):
+        server = self.start("--connections", "300", "--idle", "2")
+        busy, held = self.connect(server), [self.connect(server) for _ in range(299)]
+        self.assertEqual(ask(busy, OPEN), [OPENED])
+        began, ended = time.monotonic(), 0
+        while held and time.monotonic() < began + 10:
+            self.assertEqual(ask(busy, BEGIN, ABORT), [BEGUN, DONE])
+            readable = select.select(held, [], [], 0.05)[0]
+            if readable:
+                self.assertGreater(time.monotonic() - began, 1.5)
+            for connection in readable:
+                self.assertEqual(connection.recv(100), b"")
+                held.remove(connection)
+        self.assertEqual(held, [])
+        self.assertLess(time.monotonic() - began, 8)
+        self.assertEqual(ask(busy, BEGIN), [BEGUN])
 
 
 def requests_of(choose, actor):

@@ -11,6 +11,7 @@ pub mod Laws
 pub mod Doors
 pub mod Sockets
 pub mod Fetching
+pub mod Capacity
 pub mod Daemons
 pub mod Readings
 pub mod Helps

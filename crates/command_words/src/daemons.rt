@@ -6,8 +6,10 @@ ghost use Rattle.command_words.specs.Settings.{settings};
 ghost use Rattle.command_words.specs.Doors.{door_of};
 ghost use Rattle.command_words.specs.Fetching.{peer_addresses};
 ghost use Rattle.command_words.specs.Daemons.{Daemon, daemon, daemon_by, daemon_of, daemon_with};
+ghost use Rattle.command_words.specs.Capacity.{IsCapacity};
 ghost use Rattle.command_words.specs.Places.{IsPlace};
 
+use crate::capacity::{Capacity, read_capacity};
 use crate::commands::{Place, WordsFault};
 use crate::doors::{DoorPlan, are_doors, doors_of};
 use crate::fetching::{are_peers, peers_of, read_every};
@@ -27,6 +29,8 @@ pub struct DaemonPlan<'a> {
     pub mode: u32,
     /// After so many seconds in which it asked nothing a connection is ended.
     pub idle: Option<u32>,
+    /// For how much there is room.
+    pub capacity: Capacity,
     /// The addresses of the sites from which it fetches, in the order of the words.
     pub peers: Vec<&'a str>,
     /// So many seconds after it fetched it fetches again.
@@ -42,6 +46,7 @@ pub struct DaemonPlan<'a> {
 pub fn read_daemon(alloc: Global, words: &[String]) -> Result<DaemonPlan<'_>, WordsFault>
     ensures form { IfOk result (λ plan. daemon (settings (map (λ w. string_bytes w) words.now)) ≡ Some (daemon_of plan)) }
     ensures place { IfOk result (λ plan. IsPlace plan.place) }
+    ensures capacity { IfOk result (λ plan. IsCapacity plan.capacity) }
     ensures peers { IfOk result (λ plan. length plan.peers.items ≤ 15) }
     ensures usage { result ≡ Err WordsFault.Usage → daemon (settings (map (λ w. string_bytes w) words.now)) ≡ None }
     ensures memory { result ≡ Err WordsFault.NoMemory → (asked : Daemon) × (daemon (settings (map (λ w. string_bytes w) words.now)) ≡ Some asked) }
@@ -63,6 +68,7 @@ fn plan_of<'a>(
 ) -> Result<DaemonPlan<'a>, NoMemory>
     ensures form { IfOk result (λ plan. daemon_by (settings (map (λ w. string_bytes w) words.now)) asked.now ≡ daemon_of plan) }
     ensures place { IfOk result (λ plan. plan.place ≡ asked.now.place) }
+    ensures capacity { IfOk result (λ plan. plan.capacity ≡ asked.now.capacity) }
     ensures peers { IfOk result (λ plan. length plan.peers.items ≡ length (peer_addresses (settings (map (λ w. string_bytes w) words.now)))) }
 {
     let doors = doors_of(alloc, words)?;
@@ -72,6 +78,7 @@ fn plan_of<'a>(
         doors,
         mode: asked.mode,
         idle: asked.idle,
+        capacity: asked.capacity,
         peers,
         every: asked.every,
         tidy: asked.tidy,
@@ -85,6 +92,7 @@ pub(crate) struct DaemonAsked<'a> {
     place: Place,
     mode: u32,
     idle: Option<u32>,
+    capacity: Capacity,
     every: u32,
     tidy: bool,
     file: Option<&'a str>,
@@ -94,6 +102,7 @@ pub(crate) struct DaemonAsked<'a> {
 fn read_asked(words: &[String]) -> Option<DaemonAsked<'_>>
     ensures form { option_map (daemon_by (settings (map (λ w. string_bytes w) words.now))) result ≡ daemon (settings (map (λ w. string_bytes w) words.now)) }
     ensures place { IfSome result (λ asked. IsPlace asked.place) }
+    ensures capacity { IfSome result (λ asked. IsCapacity asked.capacity) }
     ensures peers { IfSome result (λ _. length (peer_addresses (settings (map (λ w. string_bytes w) words.now))) ≤ 15) }
 {
     let names = [
@@ -104,6 +113,9 @@ fn read_asked(words: &[String]) -> Option<DaemonAsked<'_>>
         "--peers",
         "--mode",
         "--idle",
+        "--states",
+        "--sessions",
+        "--connections",
         "--peer",
         "--every",
         "--tidy",
@@ -125,9 +137,11 @@ fn asked_with(words: &[String], place: Place) -> Option<DaemonAsked<'_>>
         ≡ daemon_with (settings (map (λ w. string_bytes w) words.now)) place (filter_map door_of (settings (map (λ w. string_bytes w) words.now)))
         (peer_addresses (settings (map (λ w. string_bytes w) words.now))) }
     ensures place { IfSome result (λ asked. asked.place ≡ place) }
+    ensures capacity { IfSome result (λ asked. IsCapacity asked.capacity) }
 {
     let mode = read_mode(words)?;
     let idle = read_idle(words)?;
+    let capacity = read_capacity(words)?;
     let every = read_every(words)?;
     let tidy = read_tidy(words)?;
     let file = read_address_or_none(words, "--file")?;
@@ -135,6 +149,7 @@ fn asked_with(words: &[String], place: Place) -> Option<DaemonAsked<'_>>
         place,
         mode,
         idle,
+        capacity,
         every,
         tidy,
         file,

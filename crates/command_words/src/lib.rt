@@ -4,6 +4,7 @@
 #![tactic(auto)]
 
 mod behind;
+mod capacity;
 mod commands;
 mod daemons;
 mod doors;
@@ -21,6 +22,7 @@ mod settings;
 mod sockets;
 
 pub use behind::words_behind_name;
+pub use capacity::{Capacity, MOST_CONNECTIONS, USUAL_CONNECTIONS};
 pub use commands::{Command, Place, ServePlan, WordsFault};
 pub use daemons::{DaemonPlan, read_daemon};
 pub use doors::{DoorKind, DoorPlan, MOST_DOORS};

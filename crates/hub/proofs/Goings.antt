@@ -9,7 +9,7 @@ use Rattle.site_peers.specs.declared.peers.Peer.{Peer}
 use Rattle.site_peers.specs.declared.deeds.Deed.{Deed}
 use Rattle.site_peers.specs.Moves.{News, Moves}
 use Rattle.site_peers.specs.Runs.{PeerTurn, Went}
-use Rattle.hub.specs.declared.ports.Fetches.{Fetches}
+use Rattle.hub.specs.declared.ports.Scope.{Scope}
 use Rattle.hub.specs.declared.ports.PeerNews.{PeerNews}
 use Rattle.hub.specs.declared.ports.Ready.TheVariants.{Peer as OfPeer}
 use Rattle.hub.specs.declared.ports.Seen.{Seen}
@@ -39,20 +39,20 @@ went_there every n p q t old new turns went only moves k = elim (cases_eq k n) [
 ]
 
 -- a peer stands in its place
-stands_there : {S : Type 0} (w : PlainSettling S) (fetches : Fetches) (to : S → Type 0) (s : S) (connections : List (Option ConnectionState)) (peers : List Peer)
-    (turns : List Turn) (n : ℕ) (p : Peer) → Keeps w fetches to s connections peers turns → slice_get peers n ≡ Some p → n < fetches.peers
-stands_there w fetches to s connections peers turns n p keeps is =
+stands_there : {S : Type 0} (w : PlainSettling S) (scope : Scope) (to : S → Type 0) (s : S) (connections : List (Option ConnectionState)) (peers : List Peer)
+    (turns : List Turn) (n : ℕ) (p : Peer) → Keeps w scope to s connections peers turns → slice_get peers n ≡ Some p → n < scope.peers
+stands_there w scope to s connections peers turns n p keeps is =
     let within = slice_get_within peers n p is in
     omega (arith, within, keeps.many)
 
 -- a peer had a turn
-did : {S : Type 0} (w : PlainSettling S) (fetches : Fetches) (mid to : S → Type 0) (connections : List (Option ConnectionState)) (old new : List Peer) (n offered : ℕ)
+did : {S : Type 0} (w : PlainSettling S) (scope : Scope) (mid to : S → Type 0) (connections : List (Option ConnectionState)) (old new : List Peer) (n offered : ℕ)
     (p q : Peer) (t : PeerTurn) (tally next : TallyState) (before after : Option (List Seen)) (s : S) (turns earlier : List Turn)
-    (keeps : Keeps w fetches mid s connections old earlier) → AreBefore turns earlier → MaySend w keeps.state t.news → IsOnly n p q old new →
+    (keeps : Keeps w scope mid s connections old earlier) → AreBefore turns earlier → MaySend w keeps.state t.news → IsOnly n p q old new →
     MayTell p offered t.news → Moves p t.now t.bodies t.replies t.deed q t.news → AnsweredFor w.machine to t.bodies t.replies tally next keeps.state →
     Tells before after (moved n offered t.news ++ carried_out n t.deed) →
-    WentOn w fetches to s connections new turns tally next (IsToldBehind (OfPeer n t.now (offer_of t.news)) before after)
-did w fetches mid to connections old new n offered p q t tally next before after s turns earlier keeps behind may only tells moves a told = record {
+    WentOn w scope to s connections new turns tally next (IsToldBehind (OfPeer n t.now (offer_of t.news)) before after)
+did w scope mid to connections old new n offered p q t tally next before after s turns earlier keeps behind may only tells moves a told = record {
   earlier = earlier;
   behind = behind;
   turn = PeerDid n offered t;
@@ -64,16 +64,17 @@ did w fetches mid to connections old new n offered p q t tally next before after
       (
         p,
         record {
-          is_one = stands_there w fetches mid s connections old earlier n p keeps only.was;
-          went = subst (λ o. IfSome o (Went (1000 * fetches.seconds) (turns_of n earlier))) only.was (keeps.went n);
+          is_one = stands_there w scope mid s connections old earlier n p keeps only.was;
+          went = subst (λ o. IfSome o (Went (1000 * scope.seconds) (turns_of n earlier))) only.was (keeps.went n);
         },
         tells,
       ),
       (λ k. each_talk (talk k earlier) (connection_at connections k) (keeps.fits k), keeps.served),
     );
     fits = keeps.fits;
+    slots = keeps.slots;
     many = only.many ∙ keeps.many;
-    went = went_there (1000 * fetches.seconds) n p q t old new (λ k. turns_of k earlier) keeps.went only moves;
+    went = went_there (1000 * scope.seconds) n p q t old new (λ k. turns_of k earlier) keeps.went only moves;
   };
   noted = a.counts;
   told = (moved n offered t.news ++ carried_out n t.deed, (refl, told));
@@ -83,8 +84,8 @@ did w fetches mid to connections old new n offered p q t tally next before after
 pub asked_for : {S : Type 0} (w : PlainSettling S) (from to : S → Type 0) (n offered : ℕ) (p q : Peer) (news : News) (now : ℕ) (deed : Deed) (tally next : TallyState)
     (before after : Option (List Seen)) → ((u : S) → MaySend w u news) → MayTell p offered news → Asks w.machine from to p news now deed q tally next →
     Tells before after (moved n offered news ++ carried_out n deed) → PeerTurned w from to n p q now (offer_of news) tally next before after
-asked_for w from to n offered p q news now deed tally next before after may tells asked told old new only fetches connections s turns keeps =
-    did w fetches from to connections old new n offered p q (record { now = now; news = news; bodies = asked.bodies; replies = asked.replies; deed = deed }) tally next
+asked_for w from to n offered p q news now deed tally next before after may tells asked told old new only scope connections s turns keeps =
+    did w scope from to connections old new n offered p q (record { now = now; news = news; bodies = asked.bodies; replies = asked.replies; deed = deed }) tally next
     before after s turns turns keeps (inl refl) (may keeps.state) only tells asked.moves (asked.answered keeps.state keeps.stands) told
 
 -- a peer asked nothing of the machine
@@ -109,19 +110,19 @@ pub wrote : {S : Type 0} (w : PlainSettling S) (from to : S → Type 0) (n offer
     (before after : Option (List Seen)) → ((s : S) → from s → Settles w to s) → MayTell p offered (News.Sent bytes) → Moves p now [] [] deed q (News.Sent bytes) →
     Tells before after (moved n offered (News.Sent bytes) ++ carried_out n deed) →
     PeerTurned w from to n p q now (offer_of (News.Sent bytes)) tally tally before after
-wrote w from to n offered p q bytes now deed tally before after settles tells moves told old new only fetches connections s turns keeps =
-    let settling = settled_at w fetches from to connections old s turns keeps (settles keeps.state keeps.stands) in
-    did w fetches to to connections old new n offered p q (record { now = now; news = News.Sent bytes; bodies = []; replies = []; deed = deed }) tally tally
+wrote w from to n offered p q bytes now deed tally before after settles tells moves told old new only scope connections s turns keeps =
+    let settling = settled_at w scope from to connections old s turns keeps (settles keeps.state keeps.stands) in
+    did w scope to to connections old new n offered p q (record { now = now; news = News.Sent bytes; bodies = []; replies = []; deed = deed }) tally tally
     before after s turns settling.earlier settling.keeps settling.behind settling.is_settled only tells moves
     (record { state = settling.keeps.state; answers = refl; stands = settling.keeps.stands; counts = noted_none tally }) told
 
 -- nothing was to do for a peer
-rests : {S : Type 0} (w : PlainSettling S) (fetches : Fetches) (from : S → Type 0) (connections : List (Option ConnectionState)) (old new : List Peer) (n now : ℕ)
-    (news : PeerNews) (tally : TallyState) (before after : Option (List Seen)) (s : S) (turns : List Turn) (keeps : Keeps w fetches from s connections old turns) →
+rests : {S : Type 0} (w : PlainSettling S) (scope : Scope) (from : S → Type 0) (connections : List (Option ConnectionState)) (old new : List Peer) (n now : ℕ)
+    (news : PeerNews) (tally : TallyState) (before after : Option (List Seen)) (s : S) (turns : List Turn) (keeps : Keeps w scope from s connections old turns) →
     ((k : ℕ) → slice_get new k ≡ slice_get old k) → length new ≡ length old → after ≡ before →
-    (fetches.peers ≤ n) ⊎ ((p : Peer) × IsPeer fetches turns n p × HasNothingFor p news) →
-    WentOn w fetches from s connections new turns tally tally (IsToldBehind (OfPeer n now news) before after)
-rests w fetches from connections old new n now news tally before after s turns keeps unchanged many none may = record {
+    (scope.peers ≤ n) ⊎ ((p : Peer) × IsPeer scope turns n p × HasNothingFor p news) →
+    WentOn w scope from s connections new turns tally tally (IsToldBehind (OfPeer n now news) before after)
+rests w scope from connections old new n now news tally before after s turns keeps unchanged many none may = record {
   earlier = turns;
   behind = inl refl;
   turn = Rested (OfPeer n now news);
@@ -131,8 +132,9 @@ rests w fetches from connections old new n now news tally before after s turns k
     stands = keeps.stands;
     served = (may, (λ k. each_talk (talk k turns) (connection_at connections k) (keeps.fits k), keeps.served));
     fits = keeps.fits;
+    slots = keeps.slots;
     many = many ∙ keeps.many;
-    went = λ k. subst (λ o. IfSome o (Went (1000 * fetches.seconds) (turns_of k turns))) (sym (unchanged k)) (keeps.went k);
+    went = λ k. subst (λ o. IfSome o (Went (1000 * scope.seconds) (turns_of k turns))) (sym (unchanged k)) (keeps.went k);
   };
   noted = refl;
   told = ([], (refl, subst (λ z. Tells before z []) (sym none) (tells_none before)));
@@ -146,13 +148,13 @@ all_stay n p q old new same only k = elim (cases_eq k n) [
 
 pub rested_peer : {S : Type 0} (w : PlainSettling S) (from : S → Type 0) (n : ℕ) (p q : Peer) (now : ℕ) (news : PeerNews) (tally : TallyState)
     (before after : Option (List Seen)) → q ≡ p → after ≡ before → HasNothingFor p news → PeerTurned w from from n p q now news tally tally before after
-rested_peer w from n p q now news tally before after same none nothing old new only fetches connections s turns keeps =
-    rests w fetches from connections old new n now news tally before after s turns keeps (all_stay n p q old new same only) only.many none
+rested_peer w from n p q now news tally before after same none nothing old new only scope connections s turns keeps =
+    rests w scope from connections old new n now news tally before after s turns keeps (all_stay n p q old new same only) only.many none
     (inr (
       p,
       record {
-        is_one = stands_there w fetches from s connections old turns n p keeps only.was;
-        went = subst (λ o. IfSome o (Went (1000 * fetches.seconds) (turns_of n turns))) only.was (keeps.went n);
+        is_one = stands_there w scope from s connections old turns n p keeps only.was;
+        went = subst (λ o. IfSome o (Went (1000 * scope.seconds) (turns_of n turns))) only.was (keeps.went n);
       },
       nothing,
     ))
@@ -160,8 +162,8 @@ rested_peer w from n p q now news tally before after same none nothing old new o
 -- there is no such peer
 pub no_such_peer : {S : Type 0} (w : PlainSettling S) (from : S → Type 0) (peers : List Peer) (n now : ℕ) (news : PeerNews) (tally : TallyState)
     (before : Option (List Seen)) → length peers ≤ n → FetchesOn w from from peers peers (OfPeer n now news) tally tally before before
-no_such_peer w from peers n now news tally before past fetches connections s turns keeps =
-    rests w fetches from connections peers peers n now news tally before before s turns keeps (λ k. refl) refl refl
+no_such_peer w from peers n now news tally before past scope connections s turns keeps =
+    rests w scope from connections peers peers n now news tally before before s turns keeps (λ k. refl) refl refl
     (inl (omega (arith, past, keeps.many)))
 
 -- one place of peers was set

@@ -8,7 +8,7 @@ use Rattle.hub.specs.declared.ports.Ready.{Ready}
 use Rattle.site_peers.specs.declared.peers.Peer.{Peer}
 use Rattle.site_peers.specs.Moves.{fresh, waiting}
 use Rattle.site_peers.specs.Runs.{Went}
-use Rattle.hub.specs.declared.ports.Fetches.{Fetches}
+use Rattle.hub.specs.declared.ports.Scope.{Scope}
 use Rattle.hub.specs.declared.ports.PeerNews.TheVariants.{Time as TheTime, Through as ItIsThrough, Over as ItIsOver, Read as MayRead, Write as MayWrite}
 use Rattle.hub.specs.declared.ports.Ready.TheVariants.{Accept, Read, Write, Close, Peer as OfPeer, Stop}
 use Rattle.hub.specs.declared.ports.Seen.{Seen}
@@ -45,10 +45,10 @@ pub tells_lost : (o n : Option (List Seen)) (calls : List Seen) → n ≡ None �
 tells_lost o n calls none = subst (λ z. Tells o z calls) (sym none) (tells_no_more o calls)
 
 -- an offer, and what was done of it
-wholly : {S : Type 0} (w : PlainSettling S) (fetches : Fetches) (to : S → Type 0) (s : S) (connections : List (Option ConnectionState)) (peers : List Peer)
+wholly : {S : Type 0} (w : PlainSettling S) (scope : Scope) (to : S → Type 0) (s : S) (connections : List (Option ConnectionState)) (peers : List Peer)
     (turns : List Turn) (offer : Ready) (tally next : TallyState) (a b c : Option (List Seen)) → Tells a b (Offered offer ∷ []) →
-    WentOn w fetches to s connections peers turns tally next (IsToldBehind offer b c) → WentOn w fetches to s connections peers turns tally next (IsTold a c)
-wholly w fetches to s connections peers turns offer tally next a b c p on = record {
+    WentOn w scope to s connections peers turns tally next (IsToldBehind offer b c) → WentOn w scope to s connections peers turns tally next (IsTold a c)
+wholly w scope to s connections peers turns offer tally next a b c p on = record {
   earlier = on.earlier;
   behind = on.behind;
   turn = on.turn;
@@ -60,14 +60,14 @@ wholly w fetches to s connections peers turns offer tally next a b c p on = reco
 pub turned : {S : Type 0} (w : PlainSettling S) (from to : S → Type 0) (old new : List (Option ConnectionState)) (peers : List Peer) (offer : Ready)
     (tally next : TallyState) (a b c : Option (List Seen)) → Tells a b (Offered offer ∷ []) → GoesOn w from to old new offer tally next b c →
     Turned w from to old new peers peers tally next a c
-turned w from to old new peers offer tally next a b c p goes fetches s turns keeps =
-    wholly w fetches to s new peers turns offer tally next a b c p (goes fetches peers s turns keeps)
+turned w from to old new peers offer tally next a b c p goes scope s turns keeps =
+    wholly w scope to s new peers turns offer tally next a b c p (goes scope peers s turns keeps)
 
 pub fetched : {S : Type 0} (w : PlainSettling S) (from to : S → Type 0) (connections : List (Option ConnectionState)) (old new : List Peer) (offer : Ready)
     (tally next : TallyState) (a b c : Option (List Seen)) → Tells a b (Offered offer ∷ []) → FetchesOn w from to old new offer tally next b c →
     Turned w from to connections connections old new tally next a c
-fetched w from to connections old new offer tally next a b c p goes fetches s turns keeps =
-    wholly w fetches to s connections new turns offer tally next a b c p (goes fetches connections s turns keeps)
+fetched w from to connections old new offer tally next a b c p goes scope s turns keeps =
+    wholly w scope to s connections new turns offer tally next a b c p (goes scope connections s turns keeps)
 
 -- no turn yet
 tally_start : (rule : Option UpkeepRule) → IsTally rule (first_tally rule) []
@@ -75,20 +75,20 @@ tally_start None = refl
 tally_start (Some rule) = refl
 
 -- the peers are fresh
-each_fresh : (fetches : Fetches) (peers : List Peer) → length peers ≡ fetches.peers →
-    ((n : ℕ) → n < fetches.peers → slice_get peers n ≡ Some (fresh (1000 * fetches.seconds))) → (n : ℕ) →
-    IfSome (slice_get peers n) (Went (1000 * fetches.seconds) [])
-each_fresh fetches peers many all n = elim (slice_get_cases peers n).1 [
-  | inl found ↦ subst (λ o. IfSome o (Went (1000 * fetches.seconds) [])) (sym (all n (omega (arith, many, found.1)))) refl
-  | inr past ↦ subst (λ o. IfSome o (Went (1000 * fetches.seconds) [])) (sym past.1) tt
+each_fresh : (scope : Scope) (peers : List Peer) → length peers ≡ scope.peers →
+    ((n : ℕ) → n < scope.peers → slice_get peers n ≡ Some (fresh (1000 * scope.seconds))) → (n : ℕ) →
+    IfSome (slice_get peers n) (Went (1000 * scope.seconds) [])
+each_fresh scope peers many all n = elim (slice_get_cases peers n).1 [
+  | inl found ↦ subst (λ o. IfSome o (Went (1000 * scope.seconds) [])) (sym (all n (omega (arith, many, found.1)))) refl
+  | inr past ↦ subst (λ o. IfSome o (Went (1000 * scope.seconds) [])) (sym past.1) tt
 ]
 
-pub led_start : {S : Type 0} (w : PlainSettling S) (rule : Option UpkeepRule) (fetches : Fetches) (from : S → Type 0) (s : S)
+pub led_start : {S : Type 0} (w : PlainSettling S) (rule : Option UpkeepRule) (scope : Scope) (from : S → Type 0) (s : S)
     (connections : List (Option ConnectionState)) (peers : List Peer) (tally : TallyState)
-    (a : Option (List Seen)) → from s → ((n : ℕ) → connection_at connections n ≡ None) → length peers ≡ fetches.peers →
-    ((n : ℕ) → n < fetches.peers → slice_get peers n ≡ Some (fresh (1000 * fetches.seconds))) → tally ≡ first_tally rule →
-    Led w rule fetches from s connections peers tally a a 0
-led_start w rule fetches from s connections peers tally a f free many all whole = record {
+    (a : Option (List Seen)) → from s → ((n : ℕ) → connection_at connections n ≡ None) → length connections ≡ scope.connections → length peers ≡ scope.peers →
+    ((n : ℕ) → n < scope.peers → slice_get peers n ≡ Some (fresh (1000 * scope.seconds))) → tally ≡ first_tally rule →
+    Led w rule scope from s connections peers tally a a 0
+led_start w rule scope from s connections peers tally a f free slots many all whole = record {
   turns = [];
   keeps = record {
     state = s;
@@ -96,8 +96,9 @@ led_start w rule fetches from s connections peers tally a f free many all whole 
     stands = f;
     served = tt;
     fits = λ n. subst (λ l. Fits None l) (sym (free n)) tt;
+    slots = slots;
     many = many;
-    went = each_fresh fetches peers many all;
+    went = each_fresh scope peers many all;
   };
   seen = tells_none a;
   many = refl;
@@ -231,12 +232,12 @@ kept_tally rule other tally next more bodies replies older same is pays says =
     (kept_under other tally next more bodies replies older (subst (λ r. IsTally r tally older) same is) pays says)
 
 -- one turn of the edge more
-pub led_more : {S : Type 0} (w : PlainSettling S) (rule : Option UpkeepRule) (fetches : Fetches) (from to : S → Type 0) (s : S)
+pub led_more : {S : Type 0} (w : PlainSettling S) (rule : Option UpkeepRule) (scope : Scope) (from to : S → Type 0) (s : S)
     (old new : List (Option ConnectionState)) (old_peers new_peers : List Peer)
-    (tally next later : TallyState) (a b c : Option (List Seen)) (count : ℕ) → Led w rule fetches from s old old_peers tally a b count → due_by tally ≡ None →
-    Turned w from to old new old_peers new_peers tally next b c → later ≡ passed next → Led w rule fetches to s new new_peers later a c (count + 1)
-led_more w rule fetches from to s old new old_peers new_peers tally next later a b c count led none goes passes =
-    let on = goes fetches s led.turns led.keeps in
+    (tally next later : TallyState) (a b c : Option (List Seen)) (count : ℕ) → Led w rule scope from s old old_peers tally a b count → due_by tally ≡ None →
+    Turned w from to old new old_peers new_peers tally next b c → later ≡ passed next → Led w rule scope to s new new_peers later a c (count + 1)
+led_more w rule scope from to s old new old_peers new_peers tally next later a b c count led none goes passes =
+    let on = goes scope s led.turns led.keeps in
     let behind = behind_is rule tally led.turns on.earlier on.behind led.timely led.tallied (due_none rule tally led.turns led.tallied none) in
     let one : counts on.turn ≡ 1 = counts_one tally next on.turn on.noted in
     record {
@@ -250,12 +251,12 @@ led_more w rule fetches from to s old new old_peers new_peers tally next later a
     }
 
 -- an upkeep more
-pub led_kept : {S : Type 0} (w : PlainSettling S) (rule : Option UpkeepRule) (fetches : Fetches) (from to : S → Type 0) (s : S)
+pub led_kept : {S : Type 0} (w : PlainSettling S) (rule : Option UpkeepRule) (scope : Scope) (from to : S → Type 0) (s : S)
     (connections : List (Option ConnectionState)) (peers : List Peer)
-    (tally next : TallyState) (a b : Option (List Seen)) (count : ℕ) (other : UpkeepRule) (more : Bool) → Led w rule fetches from s connections peers tally a b count →
+    (tally next : TallyState) (a b : Option (List Seen)) (count : ℕ) (other : UpkeepRule) (more : Bool) → Led w rule scope from s connections peers tally a b count →
     due_by tally ≡ Some other → next ≡ paid tally other.after more → ((u : S) → from u → Asked w.machine to other.requests other.full more u) →
-    Led w rule fetches to s connections peers next a b (count + 1)
-led_kept w rule fetches from to s connections peers tally next a b count other more led is pays asked =
+    Led w rule scope to s connections peers next a b (count + 1)
+led_kept w rule scope from to s connections peers tally next a b count other more led is pays asked =
     let k = asked led.keeps.state led.keeps.stands in
     record {
       turns = KeptUp other.requests k.replies ∷ led.turns;
@@ -265,6 +266,7 @@ led_kept w rule fetches from to s connections peers tally next a b count other m
         stands = k.stands;
         served = (tt, (λ n. each_talk (talk n led.turns) (connection_at connections n) (led.keeps.fits n), led.keeps.served));
         fits = led.keeps.fits;
+        slots = led.keeps.slots;
         many = led.keeps.many;
         went = led.keeps.went;
       };
@@ -275,56 +277,56 @@ led_kept w rule fetches from to s connections peers tally next a b count other m
     }
 
 -- each peer is as its turns led to it
-pub peers_are : {S : Type 0} (w : PlainSettling S) (fetches : Fetches) (to : S → Type 0) (s : S) (connections : List (Option ConnectionState)) (peers : List Peer)
-    (turns : List Turn) → Keeps w fetches to s connections peers turns → ArePeers fetches turns
-peers_are w fetches to s connections peers turns keeps n within = elim (slice_get_cases peers n).1 [
+pub peers_are : {S : Type 0} (w : PlainSettling S) (scope : Scope) (to : S → Type 0) (s : S) (connections : List (Option ConnectionState)) (peers : List Peer)
+    (turns : List Turn) → Keeps w scope to s connections peers turns → ArePeers scope turns
+peers_are w scope to s connections peers turns keeps n within = elim (slice_get_cases peers n).1 [
   | inl found ↦ (
     found.0,
-    record { is_one = within; went = subst (λ o. IfSome o (Went (1000 * fetches.seconds) (turns_of n turns))) found.2 (keeps.went n) },
+    record { is_one = within; went = subst (λ o. IfSome o (Went (1000 * scope.seconds) (turns_of n turns))) found.2 (keeps.went n) },
   )
   | inr past ↦ absurd (omega (arith, within, past.0, keeps.many))
 ]
 
 -- bytes wait for whom they were offered
-waits_for : {S : Type 0} (w : PlainSettling S) (fetches : Fetches) (to : S → Type 0) (s : S) (connections : List (Option ConnectionState)) (peers : List Peer)
-    (turns : List Turn) (n : ℕ) → Keeps w fetches to s connections peers turns → (o : Option Peer) → slice_get peers n ≡ o → PeerWaits o →
-    (p : Peer) × IsPeer fetches turns n p × (0 < length (waiting p.moment))
-waits_for w fetches to s connections peers turns n keeps None e more = absurd more
-waits_for w fetches to s connections peers turns n keeps (Some p) e more = (
+waits_for : {S : Type 0} (w : PlainSettling S) (scope : Scope) (to : S → Type 0) (s : S) (connections : List (Option ConnectionState)) (peers : List Peer)
+    (turns : List Turn) (n : ℕ) → Keeps w scope to s connections peers turns → (o : Option Peer) → slice_get peers n ≡ o → PeerWaits o →
+    (p : Peer) × IsPeer scope turns n p × (0 < length (waiting p.moment))
+waits_for w scope to s connections peers turns n keeps None e more = absurd more
+waits_for w scope to s connections peers turns n keeps (Some p) e more = (
   p,
   record {
     is_one = let within = slice_get_within peers n p e in omega (arith, within, keeps.many);
-    went = subst (λ o. IfSome o (Went (1000 * fetches.seconds) (turns_of n turns))) e (keeps.went n);
+    went = subst (λ o. IfSome o (Went (1000 * scope.seconds) (turns_of n turns))) e (keeps.went n);
   },
   more,
 )
 
-pub is_wanted : {S : Type 0} (w : PlainSettling S) (fetches : Fetches) (to : S → Type 0) (s : S) (connections : List (Option ConnectionState)) (peers : List Peer)
-    (turns : List Turn) → Keeps w fetches to s connections peers turns → (offer : Ready) → HasWaiting connections peers offer → IsWanted fetches turns offer
-is_wanted w fetches to s connections peers turns keeps (Write slot) more = waits_at (talk slot turns) (connection_at connections slot) (keeps.fits slot) more
-is_wanted w fetches to s connections peers turns keeps (OfPeer n now MayWrite) more =
-    waits_for w fetches to s connections peers turns n keeps (slice_get peers n) refl more
-is_wanted w fetches to s connections peers turns keeps (OfPeer n now TheTime) more = absurd more
-is_wanted w fetches to s connections peers turns keeps (OfPeer n now ItIsThrough) more = absurd more
-is_wanted w fetches to s connections peers turns keeps (OfPeer n now ItIsOver) more = absurd more
-is_wanted w fetches to s connections peers turns keeps (OfPeer n now MayRead) more = absurd more
-is_wanted w fetches to s connections peers turns keeps Accept more = absurd more
-is_wanted w fetches to s connections peers turns keeps (Read slot) more = absurd more
-is_wanted w fetches to s connections peers turns keeps (Close slot) more = absurd more
-is_wanted w fetches to s connections peers turns keeps Stop more = absurd more
+pub is_wanted : {S : Type 0} (w : PlainSettling S) (scope : Scope) (to : S → Type 0) (s : S) (connections : List (Option ConnectionState)) (peers : List Peer)
+    (turns : List Turn) → Keeps w scope to s connections peers turns → (offer : Ready) → HasWaiting connections peers offer → IsWanted scope turns offer
+is_wanted w scope to s connections peers turns keeps (Write slot) more = waits_at (talk slot turns) (connection_at connections slot) (keeps.fits slot) more
+is_wanted w scope to s connections peers turns keeps (OfPeer n now MayWrite) more =
+    waits_for w scope to s connections peers turns n keeps (slice_get peers n) refl more
+is_wanted w scope to s connections peers turns keeps (OfPeer n now TheTime) more = absurd more
+is_wanted w scope to s connections peers turns keeps (OfPeer n now ItIsThrough) more = absurd more
+is_wanted w scope to s connections peers turns keeps (OfPeer n now ItIsOver) more = absurd more
+is_wanted w scope to s connections peers turns keeps (OfPeer n now MayRead) more = absurd more
+is_wanted w scope to s connections peers turns keeps Accept more = absurd more
+is_wanted w scope to s connections peers turns keeps (Read slot) more = absurd more
+is_wanted w scope to s connections peers turns keeps (Close slot) more = absurd more
+is_wanted w scope to s connections peers turns keeps Stop more = absurd more
 
 -- the edge said stop
-pub run_stopped : {S : Type 0} (w : PlainSettling S) (rule : Option UpkeepRule) (fetches : Fetches) (to : S → Type 0) (s : S)
+pub run_stopped : {S : Type 0} (w : PlainSettling S) (rule : Option UpkeepRule) (scope : Scope) (to : S → Type 0) (s : S)
     (connections : List (Option ConnectionState)) (peers : List Peer) (tally : TallyState)
-    (a b c : Option (List Seen)) (count : ℕ) → Led w rule fetches to s connections peers tally a b count → due_by tally ≡ None → Tells b c (Offered Stop ∷ []) →
-    IsRun w rule fetches to s Stopped a c
-run_stopped w rule fetches to s connections peers tally a b c count led none stop = record {
+    (a b c : Option (List Seen)) (count : ℕ) → Led w rule scope to s connections peers tally a b count → due_by tally ≡ None → Tells b c (Offered Stop ∷ []) →
+    IsRun w rule scope to s Stopped a c
+run_stopped w rule scope to s connections peers tally a b c count led none stop = record {
   turns = led.turns;
   state = led.keeps.state;
   ran = led.keeps.ran;
   stands = led.keeps.stands;
   served = led.keeps.served;
-  fetched = peers_are w fetches to s connections peers led.turns led.keeps;
+  fetched = peers_are w scope to s connections peers led.turns led.keeps;
   last = Offered Stop ∷ [];
   seen = tells_then a b c (calls_in led.turns) (Offered Stop ∷ []) led.seen stop;
   timely = led.timely;
@@ -332,17 +334,17 @@ run_stopped w rule fetches to s connections peers tally a b c count led none sto
 }
 
 -- as many turns were made as may be
-pub run_spent : {S : Type 0} (w : PlainSettling S) (rule : Option UpkeepRule) (fetches : Fetches) (to : S → Type 0) (s : S)
+pub run_spent : {S : Type 0} (w : PlainSettling S) (rule : Option UpkeepRule) (scope : Scope) (to : S → Type 0) (s : S)
     (connections : List (Option ConnectionState)) (peers : List Peer) (tally : TallyState)
-    (a b : Option (List Seen)) (count : ℕ) → Led w rule fetches to s connections peers tally a b count → count ≡ 18446744073709551615 →
-    IsRun w rule fetches to s Spent a b
-run_spent w rule fetches to s connections peers tally a b count led all = record {
+    (a b : Option (List Seen)) (count : ℕ) → Led w rule scope to s connections peers tally a b count → count ≡ 18446744073709551615 →
+    IsRun w rule scope to s Spent a b
+run_spent w rule scope to s connections peers tally a b count led all = record {
   turns = led.turns;
   state = led.keeps.state;
   ran = led.keeps.ran;
   stands = led.keeps.stands;
   served = led.keeps.served;
-  fetched = peers_are w fetches to s connections peers led.turns led.keeps;
+  fetched = peers_are w scope to s connections peers led.turns led.keeps;
   last = [];
   seen = tells_then a b b (calls_in led.turns) [] led.seen (tells_none b);
   timely = led.timely;
@@ -350,11 +352,11 @@ run_spent w rule fetches to s connections peers tally a b count led all = record
 }
 
 -- what was answered couldn't be settled
-pub run_unsettled : {S : Type 0} (w : PlainSettling S) (rule : Option UpkeepRule) (fetches : Fetches) (from to : S → Type 0) (s : S)
+pub run_unsettled : {S : Type 0} (w : PlainSettling S) (rule : Option UpkeepRule) (scope : Scope) (from to : S → Type 0) (s : S)
     (connections : List (Option ConnectionState)) (peers : List Peer)
-    (tally : TallyState) (a b c : Option (List Seen)) (count : ℕ) → Led w rule fetches from s connections peers tally a b count → due_by tally ≡ None →
-    IsUnsettled from to connections peers b c → IsRun w rule fetches to s Unsettled a c
-run_unsettled w rule fetches from to s connections peers tally a b c count led none unsettled =
+    (tally : TallyState) (a b c : Option (List Seen)) (count : ℕ) → Led w rule scope from s connections peers tally a b count → due_by tally ≡ None →
+    IsUnsettled from to connections peers b c → IsRun w rule scope to s Unsettled a c
+run_unsettled w rule scope from to s connections peers tally a b c count led none unsettled =
     let offer = unsettled.1.0 in
     record {
       turns = led.turns;
@@ -362,7 +364,7 @@ run_unsettled w rule fetches from to s connections peers tally a b c count led n
       ran = led.keeps.ran;
       stands = unsettled.0 led.keeps.state led.keeps.stands;
       served = led.keeps.served;
-      fetched = peers_are w fetches from s connections peers led.turns led.keeps;
+      fetched = peers_are w scope from s connections peers led.turns led.keeps;
       last = Offered offer ∷ [];
       seen = tells_then a b c (calls_in led.turns) (Offered offer ∷ []) led.seen unsettled.1.1.1;
       timely = led.timely;
@@ -370,7 +372,7 @@ run_unsettled w rule fetches from to s connections peers tally a b c count led n
         offer,
         (
           refl,
-          is_wanted w fetches from s connections peers led.turns led.keeps offer unsettled.1.1.0,
+          is_wanted w scope from s connections peers led.turns led.keeps offer unsettled.1.1.0,
           due_none rule tally led.turns led.tallied none,
         ),
       );

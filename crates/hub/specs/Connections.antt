@@ -4,7 +4,7 @@ use Rattle.tardis_base.specs.Sizes.{piece}
 use Rattle.frame_cut.specs.Frames.{IsPartial, IsLong}
 use Rattle.hub.specs.declared.turns.TheConstants.{SLOTS}
 
--- as many connections may be there at once
+-- the most connections that may be there at once
 abbrev pub slots : ℕ
 slots = SLOTS
 

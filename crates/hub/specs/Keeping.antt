@@ -4,7 +4,7 @@ use Rattle.frame_cut.specs.Frames.{frames, Cuts}
 use Rattle.site_peers.specs.declared.peers.Peer.{Peer}
 use Rattle.site_peers.specs.Moves.{waiting}
 use Rattle.site_peers.specs.Runs.{Went}
-use Rattle.hub.specs.declared.ports.Fetches.{Fetches}
+use Rattle.hub.specs.declared.ports.Scope.{Scope}
 use Rattle.hub.specs.declared.ports.PeerNews.{PeerNews}
 use Rattle.hub.specs.declared.ports.PeerNews.TheVariants.{Write as MayWrite}
 use Rattle.hub.specs.declared.ports.Ready.{Ready}
@@ -34,15 +34,16 @@ Fits None (Some l) = ⊥
 Fits (Some t) None = ⊥
 
 -- from s the turns led to a state that the value stands for, to these connections, and to these peers
-pub record Keeps {S : Type 0} (w : PlainSettling S) (fetches : Fetches) (to : S → Type 0) (s : S) (connections : List (Option ConnectionState)) (peers : List Peer)
+pub record Keeps {S : Type 0} (w : PlainSettling S) (scope : Scope) (to : S → Type 0) (s : S) (connections : List (Option ConnectionState)) (peers : List Peer)
     (turns : List Turn) : Type 0 where
   pub state : S
   pub ran : Ran w s turns state
   pub stands : to state
-  pub served : AreServed fetches turns
+  pub served : AreServed scope turns
   pub fits : (n : ℕ) → Fits (talk n turns) (connection_at connections n)
-  pub many : length peers ≡ fetches.peers
-  pub went : (n : ℕ) → IfSome (slice_get peers n) (Went (1000 * fetches.seconds) (turns_of n turns))
+  pub slots : length connections ≡ scope.connections
+  pub many : length peers ≡ scope.peers
+  pub went : (n : ℕ) → IfSome (slice_get peers n) (Went (1000 * scope.seconds) (turns_of n turns))
 
 -- a turn of the edge, of which just the replies to connections and those for peers are counted
 abbrev pub IsNoted : TallyState → TallyState → Turn → Type 0
@@ -71,12 +72,12 @@ abbrev pub AreBefore : (turns earlier : List Turn) → Type 0
 AreBefore turns earlier = (earlier ≡ turns) ⊎ (earlier ≡ Settled ∷ turns)
 
 -- the run went on by one turn, of which this was told
-pub record WentOn {S : Type 0} (w : PlainSettling S) (fetches : Fetches) (to : S → Type 0) (s : S) (connections : List (Option ConnectionState)) (peers : List Peer)
+pub record WentOn {S : Type 0} (w : PlainSettling S) (scope : Scope) (to : S → Type 0) (s : S) (connections : List (Option ConnectionState)) (peers : List Peer)
     (turns : List Turn) (tally next : TallyState) (Told : Turn → Type 0) : Type 0 where
   pub earlier : List Turn
   pub behind : AreBefore turns earlier
   pub turn : Turn
-  pub keeps : Keeps w fetches to s connections peers (turn ∷ earlier)
+  pub keeps : Keeps w scope to s connections peers (turn ∷ earlier)
   pub noted : IsNoted tally next turn
   pub told : Told turn
 
@@ -90,20 +91,20 @@ IsTold before after turn = Tells before after (calls_of turn)
 -- whatever run led here, it goes on by one turn of the connections, once the offer was made
 abbrev pub GoesOn : {S : Type 0} → PlainSettling S → (from to : S → Type 0) → (old new : List (Option ConnectionState)) → Ready → (tally next : TallyState)
     → (before after : Option (List Seen)) → Type 0
-GoesOn w from to old new offer tally next before after = (fetches : Fetches) (peers : List Peer) (s : _) (turns : List Turn) → Keeps w fetches from s old peers turns
-    → WentOn w fetches to s new peers turns tally next (IsToldBehind offer before after)
+GoesOn w from to old new offer tally next before after = (scope : Scope) (peers : List Peer) (s : _) (turns : List Turn) → Keeps w scope from s old peers turns
+    → WentOn w scope to s new peers turns tally next (IsToldBehind offer before after)
 
 -- whatever run led here, it goes on by one turn of the peers, once the offer was made
 abbrev pub FetchesOn : {S : Type 0} → PlainSettling S → (from to : S → Type 0) → (old new : List Peer) → Ready → (tally next : TallyState)
     → (before after : Option (List Seen)) → Type 0
-FetchesOn w from to old new offer tally next before after = (fetches : Fetches) (connections : List (Option ConnectionState)) (s : _) (turns : List Turn)
-    → Keeps w fetches from s connections old turns → WentOn w fetches to s connections new turns tally next (IsToldBehind offer before after)
+FetchesOn w from to old new offer tally next before after = (scope : Scope) (connections : List (Option ConnectionState)) (s : _) (turns : List Turn)
+    → Keeps w scope from s connections old turns → WentOn w scope to s connections new turns tally next (IsToldBehind offer before after)
 
 -- whatever run led here, it went on by one turn
 abbrev pub Turned : {S : Type 0} → PlainSettling S → (from to : S → Type 0) → (old new : List (Option ConnectionState)) → (old_peers new_peers : List Peer)
     → (tally next : TallyState) → (before after : Option (List Seen)) → Type 0
-Turned w from to old new old_peers new_peers tally next before after = (fetches : Fetches) (s : _) (turns : List Turn) → Keeps w fetches from s old old_peers turns
-    → WentOn w fetches to s new new_peers turns tally next (IsTold before after)
+Turned w from to old new old_peers new_peers tally next before after = (scope : Scope) (s : _) (turns : List Turn) → Keeps w scope from s old old_peers turns
+    → WentOn w scope to s new new_peers turns tally next (IsTold before after)
 
 -- one peer is as said, and the others are as before
 pub record IsOnly (n : ℕ) (p q : Peer) (old new : List Peer) : Type 0 where
@@ -144,10 +145,10 @@ IsUnsettled from to old peers before after =
     ((s : _) → from s → to s) × ((offer : Ready) × (HasWaiting old peers offer × Tells before after (Offered offer ∷ [])))
 
 -- from s so many turns led here, the edge told them, and upkeep was made whenever it was due
-pub record Led {S : Type 0} (w : PlainSettling S) (rule : Option UpkeepRule) (fetches : Fetches) (to : S → Type 0) (s : S) (connections : List (Option ConnectionState))
+pub record Led {S : Type 0} (w : PlainSettling S) (rule : Option UpkeepRule) (scope : Scope) (to : S → Type 0) (s : S) (connections : List (Option ConnectionState))
     (peers : List Peer) (tally : TallyState) (before after : Option (List Seen)) (count : ℕ) : Type 0 where
   pub turns : List Turn
-  pub keeps : Keeps w fetches to s connections peers turns
+  pub keeps : Keeps w scope to s connections peers turns
   pub seen : Tells before after (calls_in turns)
   pub many : count_of turns ≡ count
   pub timely : AreTimely rule turns

@@ -3,7 +3,7 @@ use Rattle.std.specs.Prelude.{ℕ, ◌≤◌, List, [], ◌∷◌, length}
 use Rattle.site_peers.specs.declared.peers.Peer.{Peer}
 use Rattle.site_peers.specs.Moves.{most_a_turn}
 use Rattle.site_peers.specs.Runs.{exchanges, Fit}
-use Rattle.hub.specs.declared.ports.Fetches.{Fetches}
+use Rattle.hub.specs.declared.ports.Scope.{Scope}
 use Rattle.hub.specs.Turns.{Turn, PeerDid, turns_of, IsPeer, ArePeers}
 use Rattle.hub.specs.Runs.{AreServed}
 
@@ -18,9 +18,9 @@ AreShort (turn ∷ older) = IsShort turn × AreShort older
 
 -- whatever the turns of a run were, each is short
 abbrev pub PeersAreFair : Type 0
-PeersAreFair = (fetches : Fetches) (turns : List Turn) → AreServed fetches turns → ArePeers fetches turns → AreShort turns
+PeersAreFair = (scope : Scope) (turns : List Turn) → AreServed scope turns → ArePeers scope turns → AreShort turns
 
 -- the exchanges with each peer of a run are one after another: each was asked by the counts that were told when it began, and
 -- the items of its answer were delivered in order and each once, unless something failed
 abbrev pub FetchesAreWhole : Type 0
-FetchesAreWhole = (fetches : Fetches) (turns : List Turn) (n : ℕ) (p : Peer) → IsPeer fetches turns n p → Fit p.moment (exchanges (turns_of n turns))
+FetchesAreWhole = (scope : Scope) (turns : List Turn) (n : ℕ) (p : Peer) → IsPeer scope turns n p → Fit p.moment (exchanges (turns_of n turns))

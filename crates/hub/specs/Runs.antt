@@ -3,7 +3,7 @@ use Rattle.std.specs.Prelude.{◌≡◌, ℕ, ◌+◌, ◌<◌, List, [], ◌∷
 use Rattle.tardis_base.specs.Plain.{Event, Answers}
 use Rattle.site_peers.specs.declared.peers.Peer.{Peer}
 use Rattle.site_peers.specs.Moves.{News, Sent as SentBytes, waiting}
-use Rattle.hub.specs.declared.ports.Fetches.{Fetches}
+use Rattle.hub.specs.declared.ports.Scope.{Scope}
 use Rattle.hub.specs.declared.ports.PeerNews.TheVariants.{Write as MayWrite}
 use Rattle.hub.specs.declared.ports.Ready.{Ready}
 use Rattle.hub.specs.declared.ports.Ready.TheVariants.{Write, Peer as OfPeer, Stop}
@@ -57,9 +57,9 @@ Ran w s (turn ∷ older) t = (u : _) × (Ran w s older u × Leads w older u turn
 
 -- Each turn was right where it stands; and then, as at each earlier moment, each connection that was there had its
 -- replies. So each that ever was had them when it ended.
-abbrev pub AreServed : Fetches → List Turn → Type 0
-AreServed fetches [] = Unit {0}
-AreServed fetches (turn ∷ older) = IsRight fetches older turn × (((n : ℕ) → IfSome (talk n (turn ∷ older)) IsTalk) × AreServed fetches older)
+abbrev pub AreServed : Scope → List Turn → Type 0
+AreServed scope [] = Unit {0}
+AreServed scope (turn ∷ older) = IsRight scope older turn × (((n : ℕ) → IfSome (talk n (turn ∷ older)) IsTalk) × AreServed scope older)
 
 -- how many turns were made, with those of the upkeep; settling belongs to the write that it comes before
 abbrev pub counts : Turn → ℕ
@@ -71,29 +71,29 @@ count_of [] = 0
 count_of (turn ∷ older) = count_of older + counts turn
 
 -- it is an offer to write, to a connection or a peer for which bytes wait
-abbrev pub IsWanted : Fetches → List Turn → Ready → Type 0
-IsWanted fetches turns (Write slot) = HasSome (talk slot turns)
-IsWanted fetches turns (OfPeer n now MayWrite) = (p : Peer) × IsPeer fetches turns n p × (0 < length (waiting p.moment))
-IsWanted fetches turns _ = ⊥
+abbrev pub IsWanted : Scope → List Turn → Ready → Type 0
+IsWanted scope turns (Write slot) = HasSome (talk slot turns)
+IsWanted scope turns (OfPeer n now MayWrite) = (p : Peer) × IsPeer scope turns n p × (0 < length (waiting p.moment))
+IsWanted scope turns _ = ⊥
 
 -- What the edge sees last. It said stop, and no upkeep is left undone; or so many turns were made; or it offered to write
 -- what waits, and nothing is written, since what was answered couldn't be settled.
-abbrev pub EndsAfter : Option UpkeepRule → Fetches → List Turn → End → List Seen → Type 0
-EndsAfter rule fetches turns Stopped last = (last ≡ Offered Stop ∷ []) × (due rule turns ≡ None)
-EndsAfter rule fetches turns Spent last = (last ≡ []) × (count_of turns ≡ 18446744073709551615)
-EndsAfter rule fetches turns Unsettled last = (offer : Ready) × ((last ≡ Offered offer ∷ []) × IsWanted fetches turns offer × (due rule turns ≡ None))
+abbrev pub EndsAfter : Option UpkeepRule → Scope → List Turn → End → List Seen → Type 0
+EndsAfter rule scope turns Stopped last = (last ≡ Offered Stop ∷ []) × (due rule turns ≡ None)
+EndsAfter rule scope turns Spent last = (last ≡ []) × (count_of turns ≡ 18446744073709551615)
+EndsAfter rule scope turns Unsettled last = (offer : Ready) × ((last ≡ Offered offer ∷ []) × IsWanted scope turns offer × (due rule turns ≡ None))
 
 -- A run from s: its turns, of which the edge saw just their calls; one trail; each connection's part of it; each peer, as its turns
 -- led to it; and upkeep whenever it was due. It ends where the edge says so, or what was answered can't be settled.
-pub record IsRun {S : Type 0} (w : PlainSettling S) (rule : Option UpkeepRule) (fetches : Fetches) (to : S → Type 0) (s : S) (end : End)
+pub record IsRun {S : Type 0} (w : PlainSettling S) (rule : Option UpkeepRule) (scope : Scope) (to : S → Type 0) (s : S) (end : End)
     (before after : Option (List Seen)) : Type 0 where
   pub turns : List Turn
   pub state : S
   pub ran : Ran w s turns state
   pub stands : to state
-  pub served : AreServed fetches turns
-  pub fetched : ArePeers fetches turns
+  pub served : AreServed scope turns
+  pub fetched : ArePeers scope turns
   pub last : List Seen
   pub seen : Tells before after (calls_in turns ++ last)
   pub timely : AreTimely rule turns
-  pub ended : EndsAfter rule fetches turns end last
+  pub ended : EndsAfter rule scope turns end last

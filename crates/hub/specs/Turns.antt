@@ -2,12 +2,11 @@
 use Rattle.std.specs.Prelude.{◌≡◌, ℕ, ◌*◌, ◌<◌, ◌≤◌, ◌==◌, Bool, true, false, List, [], ◌∷◌, ◌++◌, length, Option, Some, None, IsSome, ◌⊎◌}
 use Rattle.tardis_base.specs.Sizes.{piece}
 use Rattle.frame_cut.specs.Frames.{IsLong}
-use Rattle.hub.specs.Connections.{slots}
 use Rattle.hub.specs.declared.ports.Ready.{Ready}
 use Rattle.hub.specs.declared.ports.Ready.TheVariants.{Accept, Read, Write, Close, Peer as OfPeer, Stop}
 use Rattle.hub.specs.declared.ports.Seen.{Seen}
 use Rattle.hub.specs.declared.ports.Seen.TheVariants.{Offered, Accepted, Declined, ReadFrom, WroteTo, Closed}
-use Rattle.hub.specs.declared.ports.Fetches.{Fetches}
+use Rattle.hub.specs.declared.ports.Scope.{Scope}
 use Rattle.hub.specs.Talks.{Talk, no_talk, more_talk, held, waits}
 use Rattle.hub.specs.Peers.{offer_of, moved, carried_out, MayTell, HasNothingFor}
 use Rattle.site_peers.specs.declared.peers.Peer.{Peer}
@@ -90,13 +89,13 @@ turns_of n [] = []
 turns_of n (turn ∷ older) = turns_after n turn (turns_of n older)
 
 -- the peer of this number, as its turns led to it
-pub record IsPeer (fetches : Fetches) (older : List Turn) (n : ℕ) (p : Peer) : Type 0 where
-  pub is_one : n < fetches.peers
-  pub went : Went (1000 * fetches.seconds) (turns_of n older) p
+pub record IsPeer (scope : Scope) (older : List Turn) (n : ℕ) (p : Peer) : Type 0 where
+  pub is_one : n < scope.peers
+  pub went : Went (1000 * scope.seconds) (turns_of n older) p
 
 -- each peer, as its turns led to it
-abbrev pub ArePeers : Fetches → List Turn → Type 0
-ArePeers fetches turns = (n : ℕ) → n < fetches.peers → (p : Peer) × IsPeer fetches turns n p
+abbrev pub ArePeers : Scope → List Turn → Type 0
+ArePeers scope turns = (n : ℕ) → n < scope.peers → (p : Peer) × IsPeer scope turns n p
 
 -- no more is read of a connection: much waits, or the frame that is next is too long
 abbrev pub IsShut : Option Talk → Type 0
@@ -112,13 +111,13 @@ HasSome None = ⊥
 HasSome (Some t) = 0 < length (waits t)
 
 -- nothing may be done of an offer only where there is nothing to do, or no such peer
-abbrev pub MayRest : Fetches → List Turn → Ready → Type 0
-MayRest fetches older Accept = (n : ℕ) → n < slots → IsSome (talk n older)
-MayRest fetches older (Read n) = IsShut (talk n older)
-MayRest fetches older (Write n) = HasNothing (talk n older)
-MayRest fetches older (Close n) = talk n older ≡ None
-MayRest fetches older (OfPeer n now news) = (fetches.peers ≤ n) ⊎ ((p : Peer) × IsPeer fetches older n p × HasNothingFor p news)
-MayRest fetches older Stop = ⊥
+abbrev pub MayRest : Scope → List Turn → Ready → Type 0
+MayRest scope older Accept = (n : ℕ) → n < scope.connections → IsSome (talk n older)
+MayRest scope older (Read n) = IsShut (talk n older)
+MayRest scope older (Write n) = HasNothing (talk n older)
+MayRest scope older (Close n) = talk n older ≡ None
+MayRest scope older (OfPeer n now news) = (scope.peers ≤ n) ⊎ ((p : Peer) × IsPeer scope older n p × HasNothingFor p news)
+MayRest scope older Stop = ⊥
 
 -- the bytes that wait there are few, or so many
 abbrev pub WaitFew : Option Talk → Type 0
@@ -129,20 +128,20 @@ abbrev pub WaitSoMany : Option Talk → ℕ → Type 0
 WaitSoMany None offered = ⊥
 WaitSoMany (Some t) offered = offered ≡ length (waits t)
 
--- some slot has no connection
-abbrev pub HasFreeSlot : List Turn → Type 0
-HasFreeSlot older = (n : ℕ) × (n < slots) × (talk n older ≡ None)
+-- some slot has no connection, of as many as there are
+abbrev pub HasFreeSlot : Scope → List Turn → Type 0
+HasFreeSlot scope older = (n : ℕ) × (n < scope.connections) × (talk n older ≡ None)
 
 -- The right turn after older ones. A connection is turned away only while a slot is free, and else it waits. A read offers room for 65,536 bytes, and a write all that waits. When the hub asks
 -- requests itself is said by `AreTimely`.
-abbrev pub IsRight : Fetches → List Turn → Turn → Type 0
-IsRight fetches older (Rested offer) = MayRest fetches older offer
-IsRight fetches older (Opened slot door) = (slot < slots) × (talk slot older ≡ None)
-IsRight fetches older (Missed slot) = (slot < slots) × (talk slot older ≡ None)
-IsRight fetches older TurnedAway = HasFreeSlot older
-IsRight fetches older (Received slot room came bodies replies) = WaitFew (talk slot older) × (room ≡ piece)
-IsRight fetches older (Sent slot offered wrote bodies replies) = WaitSoMany (talk slot older) offered
-IsRight fetches older (Ended slot) = IsSome (talk slot older)
-IsRight fetches older (KeptUp bodies replies) = Unit {0}
-IsRight fetches older Settled = Unit {0}
-IsRight fetches older (PeerDid peer offered t) = (p : Peer) × IsPeer fetches older peer p × MayTell p offered t.news
+abbrev pub IsRight : Scope → List Turn → Turn → Type 0
+IsRight scope older (Rested offer) = MayRest scope older offer
+IsRight scope older (Opened slot door) = (slot < scope.connections) × (talk slot older ≡ None)
+IsRight scope older (Missed slot) = (slot < scope.connections) × (talk slot older ≡ None)
+IsRight scope older TurnedAway = HasFreeSlot scope older
+IsRight scope older (Received slot room came bodies replies) = WaitFew (talk slot older) × (room ≡ piece)
+IsRight scope older (Sent slot offered wrote bodies replies) = WaitSoMany (talk slot older) offered
+IsRight scope older (Ended slot) = IsSome (talk slot older)
+IsRight scope older (KeptUp bodies replies) = Unit {0}
+IsRight scope older Settled = Unit {0}
+IsRight scope older (PeerDid peer offered t) = (p : Peer) × IsPeer scope older peer p × MayTell p offered t.news

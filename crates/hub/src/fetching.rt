@@ -12,7 +12,7 @@ ghost use Rattle.hub.specs.Peers.{Asks, carried_out};
 ghost use Rattle.hub.specs.Keeping.{FetchesOn, PeerTurned, PeerWaits, HasPeerWaiting};
 
 use crate::noting::Noting;
-use crate::ports::{Fetches, PeerNews, Ports};
+use crate::ports::{PeerNews, Ports, Scope};
 use crate::turns::settle_owed;
 use crate::upkeeps::Tally;
 use rest_machine::Settling;
@@ -23,13 +23,13 @@ use tardis_io::Failed;
 
 /// The peers of a hub.
 #[tactic(auto, using(crate::proofs::Goings::fresh_more))]
-pub(crate) fn fresh_peers(alloc: Global, fetches: Fetches) -> Result<Vec<Peer>, NoMemory>
-    ensures many { IfOk result (λ peers. length peers.items ≡ fetches.peers) }
-    ensures fresh { IfOk result (λ peers. (n : ℕ) → n < fetches.peers → slice_get peers.items n ≡ Some (fresh (1000 * fetches.seconds))) }
+pub(crate) fn fresh_peers(alloc: Global, scope: Scope) -> Result<Vec<Peer>, NoMemory>
+    ensures many { IfOk result (λ peers. length peers.items ≡ scope.peers) }
+    ensures fresh { IfOk result (λ peers. (n : ℕ) → n < scope.peers → slice_get peers.items n ≡ Some (fresh (1000 * scope.seconds))) }
 {
-    let mut peers = Vec::with_capacity(alloc, fetches.peers as usize)?;
-    for _ in 0..fetches.peers {
-        peers.push(Peer::new(fetches.seconds))?;
+    let mut peers = Vec::with_capacity(alloc, scope.peers as usize)?;
+    for _ in 0..scope.peers {
+        peers.push(Peer::new(scope.seconds))?;
     }
     Ok(peers)
 }

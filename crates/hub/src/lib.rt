@@ -19,7 +19,7 @@ pub use laws::{
     one_trail_behind_doors_as_seen,
 };
 pub use memory::{MemoryPorts, Move};
-pub use ports::{Fetches, PeerNews, Ports, Ready, Seen};
+pub use ports::{PeerNews, Ports, Ready, Scope, Seen};
 pub use serves::{End, serve};
 pub use turns::SLOTS;
 pub use upkeeps::Upkeep;

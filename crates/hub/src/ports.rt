@@ -7,10 +7,11 @@ use crate::connections::Connection;
 use site_peers::{Failure, Peer};
 use tardis_base::ByteList;
 
-/// How a hub fetches from other sites: from so many peers, numbered from 0 on, and from each every so many seconds. With no
-/// peers nothing is fetched.
+/// How many a hub has to do with: so many connections at once; and so many peers, numbered from 0 on, from each of which it fetches
+/// every so many seconds. With no peers nothing is fetched.
 #[derive(Clone, Copy)]
-pub struct Fetches {
+pub struct Scope {
+    pub connections: u16,
     pub peers: u8,
     pub seconds: u32,
 }

@@ -1,6 +1,6 @@
 //! The loop of a hub.
 
-ghost use Rattle.std.specs.Prelude.{◌≡◌, ◌<◌, ℕ, ◌+◌, ◌*◌, true, Some, None, length, slice_get, option_map, IfOk, IfSome, OnErr};
+ghost use Rattle.std.specs.Prelude.{◌≡◌, ◌<◌, ◌≤◌, ℕ, ◌+◌, ◌*◌, true, Some, None, length, slice_get, option_map, IfOk, IfSome, OnErr};
 ghost use Rattle.site_peers.specs.Moves.{fresh};
 ghost use Rattle.tardis_base.specs.Sizes.{piece};
 ghost use Rattle.hub.specs.Connections.{connection_at, slots};
@@ -10,8 +10,8 @@ ghost use Rattle.hub.specs.Runs.{close, IsRun};
 
 use crate::connections::Connection;
 use crate::fetching::fresh_peers;
-use crate::ports::{Fetches, Ports};
-use crate::turns::{Outcome, SLOTS, turn};
+use crate::ports::{Ports, Scope};
+use crate::turns::{Outcome, turn};
 use crate::upkeeps::{Tally, Upkeep, keep_up};
 use rest_machine::Settling;
 use site_peers::Peer;
@@ -29,8 +29,8 @@ pub enum End {
     Unsettled,
 }
 
-/// Serves the connections of an edge: each in a slot of 256, its requests those of the actor that is the slot's number
-/// and one more. A request is answered by the machine as it is seen through the door through which its connection came; what
+/// Serves the connections of an edge, as many at once as `scope` says: each in a slot, its requests those of the actor that is the
+/// slot's number and one more. A request is answered by the machine as it is seen through the door through which its connection came; what
 /// the hub asks itself, and the request that closes a session, come through no door. Frames hold requests without an actor, and a reply's frame answers each.
 ///
 /// It makes one turn for each offer of the edge, until that says stop. All that came of a connection is answered in that
@@ -42,14 +42,14 @@ pub enum End {
 /// an edge that offers all reads before the writes has one settling for them all. Where settling fails the hub ends at once,
 /// and writes nothing more to anybody. Settling isn't counted as a turn.
 ///
-/// It fetches from so many peers as `fetches` says, each a `site_peers::Peer` that is fresh at first. What a peer asks of the machine
+/// It fetches from so many peers as `scope` says, each a `site_peers::Peer` that is fresh at first. What a peer asks of the machine
 /// is asked by actor 0, through no door, and at most 64 requests in a turn; what is written to it waits for the settling as
 /// all that is written. An offer for a number that no peer has is passed over.
 ///
 /// An upkeep is made between two turns, as soon as it is due, and counts as a turn; `Upkeep` says when. Where it is due when
 /// the edge would say stop, it is made before that is asked.
 ///
-/// A turn's cost doesn't grow with the connections, but for a search of the slots when one comes. The buffers of the hub
+/// A turn's cost doesn't grow with the connections, nor with the slots, but for a search of these when a connection comes. The buffers of the hub
 /// are taken first; without memory for them nothing is done. A connection's are taken when it comes, and one for which
 /// there is no memory is turned away.
 pub fn serve<M: Settling, P: Ports>(
@@ -57,18 +57,19 @@ pub fn serve<M: Settling, P: Ports>(
     machine: &mut M,
     ports: &mut P,
     upkeep: Option<Upkeep<'_>>,
-    fetches: Fetches,
+    scope: Scope,
 ) -> Result<End, NoMemory>
     requires often { IfSome (option_map rule_of upkeep) (λ rule. 0 < rule.after) }
+    requires most { scope.connections ≤ slots }
     requires sure { (n : ℕ) → n < slots → M.plain.is_sure (n + 1, close) ≡ true }
     ensures served { IfOk result (λ end. (s : M.Plain) → M.stands machine.old s
-        → IsRun (behind_doors M.plain M.through M.is_settled M.settled) (option_map rule_of upkeep.entry) fetches (M.stands machine.new) s end (P.seen ports.old) (P.seen ports.new)) }
+        → IsRun (behind_doors M.plain M.through M.is_settled M.settled) (option_map rule_of upkeep.entry) scope (M.stands machine.new) s end (P.seen ports.old) (P.seen ports.new)) }
     ensures unsettled { IfOk result (λ end. end ≡ End.Unsettled → 0 < M.faults machine.new) }
     ensures nothing { OnErr result ((machine.new ≡ machine.old) × (ports.new ≡ ports.old)) }
     ensures opening { M.opening machine.new ≡ M.opening machine.old }
 {
-    let mut connections = free_connections(alloc)?;
-    let mut peers = fresh_peers(alloc, fetches)?;
+    let mut connections = free_connections(alloc, scope.connections)?;
+    let mut peers = fresh_peers(alloc, scope)?;
     let mut reply = ReplyBuf::new(alloc)?;
     match vec![in alloc; 0; PIECE] {
         Ok(mut buf) => Ok(serve_connections(
@@ -78,7 +79,7 @@ pub fn serve<M: Settling, P: Ports>(
             peers.as_mut_slice(),
             ports,
             upkeep,
-            fetches,
+            scope,
             buf.as_mut_slice(),
             &mut reply,
         )),
@@ -94,18 +95,19 @@ fn serve_connections<M: Settling, P: Ports>(
     peers: &mut [Peer],
     ports: &mut P,
     upkeep: Option<Upkeep<'_>>,
-    fetches: Fetches,
+    scope: Scope,
     buf: &mut [u8],
     reply: &mut ReplyBuf,
 ) -> End
-    requires slots { length connections.old ≡ slots }
+    requires slots { length connections.old ≡ scope.connections }
+    requires most { scope.connections ≤ slots }
     requires free { (n : ℕ) → connection_at connections.old n ≡ None }
-    requires peers { length peers.old ≡ fetches.peers }
-    requires fresh { (n : ℕ) → n < fetches.peers → slice_get peers.old n ≡ Some (fresh (1000 * fetches.seconds)) }
+    requires peers { length peers.old ≡ scope.peers }
+    requires fresh { (n : ℕ) → n < scope.peers → slice_get peers.old n ≡ Some (fresh (1000 * scope.seconds)) }
     requires room { length buf.old ≡ piece }
     requires sure { (n : ℕ) → n < slots → M.plain.is_sure (n + 1, close) ≡ true }
     ensures served { (s : M.Plain) → M.stands machine.old s
-        → IsRun (behind_doors M.plain M.through M.is_settled M.settled) (option_map rule_of upkeep.entry) fetches (M.stands machine.new) s result (P.seen ports.old) (P.seen ports.new) }
+        → IsRun (behind_doors M.plain M.through M.is_settled M.settled) (option_map rule_of upkeep.entry) scope (M.stands machine.new) s result (P.seen ports.old) (P.seen ports.new) }
     ensures unsettled { result ≡ End.Unsettled → 0 < M.faults machine.new }
     ensures opening { M.opening machine.new ≡ M.opening machine.old }
 {
@@ -137,14 +139,14 @@ fn serve_connections<M: Settling, P: Ports>(
     End::Spent
 }
 
-/// Slots that no connection has.
+/// So many slots, which no connection has.
 #[tactic(auto, using(crate::proofs::Leading::free_more))]
-fn free_connections(alloc: Global) -> Result<Vec<Option<Connection>>, NoMemory>
-    ensures slots { IfOk result (λ connections. length connections.items ≡ slots) }
+fn free_connections(alloc: Global, count: u16) -> Result<Vec<Option<Connection>>, NoMemory>
+    ensures slots { IfOk result (λ connections. length connections.items ≡ count) }
     ensures free { IfOk result (λ connections. (n : ℕ) → connection_at connections.items n ≡ None) }
 {
-    let mut connections = Vec::with_capacity(alloc, SLOTS)?;
-    for _ in 0..SLOTS {
+    let mut connections = Vec::with_capacity(alloc, count as usize)?;
+    for _ in 0..count {
         connections.push(None)?;
     }
     Ok(connections)

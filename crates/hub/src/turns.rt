@@ -21,8 +21,8 @@ use std::alloc::Global;
 use tardis_base::{NoMemory, ReplyBuf};
 use tardis_io::Failed;
 
-/// As many connections may be there at once, each in a slot.
-pub const SLOTS: usize = 256;
+/// The most connections that may be there at once, each in a slot.
+pub const SLOTS: usize = 4_096;
 
 /// Lets a connection into a free slot. Where there is none it waits; where there is no memory it is turned away.
 fn enter<M: Settling, P: Ports>(
@@ -31,7 +31,6 @@ fn enter<M: Settling, P: Ports>(
     connections: &mut [Option<Connection>],
     ports: &mut P,
 )
-    requires slots { length connections.old ≡ slots }
     ensures turned { (tally : TallyState) → GoesOn (behind_doors M.plain M.through M.is_settled M.settled) (M.stands machine.old) (M.stands machine.new) connections.old connections.new Ready.Accept tally tally
         (P.seen ports.old) (P.seen ports.new) }
     ensures slots { length connections.new ≡ length connections.old }
@@ -59,7 +58,7 @@ fn hear<M: Settling, P: Ports>(
     reply: &mut ReplyBuf,
     tally: &mut Tally<'_>,
 )
-    requires slots { length connections.old ≡ slots }
+    requires slots { length connections.old ≤ slots }
     requires room { length buf.old ≡ piece }
     requires counts { tally.old.count ≤ 4294967295 }
     ensures turned { GoesOn (behind_doors M.plain M.through M.is_settled M.settled) (M.stands machine.old) (M.stands machine.new) connections.old connections.new (Ready.Read slot) tally.old tally.new
@@ -106,7 +105,7 @@ fn tell<M: Settling, P: Ports>(
     reply: &mut ReplyBuf,
     tally: &mut Tally<'_>,
 ) -> bool
-    requires slots { length connections.old ≡ slots }
+    requires slots { length connections.old ≤ slots }
     requires counts { tally.old.count ≤ 4294967295 }
     ensures turned { result ≡ true → GoesOn (behind_doors M.plain M.through M.is_settled M.settled) (M.stands machine.old) (M.stands machine.new)
         connections.old connections.new (Ready.Write slot) tally.old tally.new (P.seen ports.old) (P.seen ports.new) }
@@ -148,7 +147,7 @@ fn leave<M: Settling, P: Ports>(
     slot: usize,
     reply: &mut ReplyBuf,
 )
-    requires slots { length connections.old ≡ slots }
+    requires slots { length connections.old ≤ slots }
     requires sure { (n : ℕ) → n < slots → M.plain.is_sure (n + 1, close) ≡ true }
     ensures turned { (tally : TallyState) → GoesOn (behind_doors M.plain M.through M.is_settled M.settled) (M.stands machine.old) (M.stands machine.new) connections.old connections.new (Ready.Close slot) tally tally
         (P.seen ports.old) (P.seen ports.new) }
@@ -185,7 +184,7 @@ pub(crate) fn turn<M: Settling, P: Ports>(
     reply: &mut ReplyBuf,
     tally: &mut Tally<'_>,
 ) -> Outcome
-    requires slots { length connections.old ≡ slots }
+    requires slots { length connections.old ≤ slots }
     requires room { length buf.old ≡ piece }
     requires sure { (n : ℕ) → n < slots → M.plain.is_sure (n + 1, close) ≡ true }
     requires counts { tally.old.count ≤ 4294967295 }

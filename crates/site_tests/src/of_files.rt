@@ -288,7 +288,11 @@ fn a_log_opens_under_limits_that_are_no_smaller(rt: HostRuntime) {
     let front = bytes_of(&rt, rt.alloc(), OF_MORE_STATES);
     let talk = Talk::new(rt.alloc());
     let life = live(&rt, rt.alloc(), ALONE, &talk, front.as_slice(), &[]);
-    assert!(rt; life.end == DaemonEnd::File(FileFault::OtherLimits));
+    let larger = FileFault::OtherLimits {
+        states: 65_000,
+        sessions: 256,
+    };
+    assert!(rt; life.end == DaemonEnd::File(larger));
     assert!(rt; life.disk.bytes() == front.as_slice());
 }
 

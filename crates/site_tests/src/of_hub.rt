@@ -5,15 +5,16 @@ ghost use Rattle.std.proofs.Common.{inl};
 ghost use Rattle.site_tests.specs.Owing.{first_byte};
 
 use crate::talks::{copied, put_frame};
-use hub::{End, Fetches, MemoryPorts, Move, Seen, Upkeep, serve};
+use hub::{End, MemoryPorts, Move, Scope, Seen, Upkeep, serve};
 use rest_machine::{InMemory, Settling};
 use std::alloc::Global;
 use std::process::Abort;
 use tardis_base::{ByteList, Machine, NoMemory, ReplyBuf};
 use tardis_io::Failed;
 
-/// No site is fetched from.
-const NOTHING_FETCHED: Fetches = Fetches {
+/// As many connections as usual, and no site is fetched from.
+const SCOPE: Scope = Scope {
+    connections: 256,
     peers: 0,
     seconds: 1,
 };
@@ -188,7 +189,7 @@ fn came_of(rt: &impl Abort, alloc: Global, letters: &[u8]) -> (End, u8, (usize, 
         faults: 0,
     };
     let mut ports = edge_of(rt, alloc, letters);
-    let end = serve(alloc, &mut machine, &mut ports, None, NOTHING_FETCHED).expect(rt, "memory");
+    let end = serve(alloc, &mut machine, &mut ports, None, SCOPE).expect(rt, "memory");
     let counts = counts_of(ports.seen().expect(rt, "memory"));
     drop(ports);
     (end, machine.settles, counts)
@@ -230,16 +231,12 @@ fn what_a_door_doesnt_let_in_is_answered_there(rt: HostRuntime) {
     let mut machine = Guarded { owing };
     // what only the second door's connection asks changes nothing, so nothing is to be settled
     let mut ports = edge_of(&rt, rt.alloc(), b"+-bB");
-    let end = serve(rt.alloc(), &mut machine, &mut ports, None, NOTHING_FETCHED).expect(
-        &rt, "memory",
-    );
+    let end = serve(rt.alloc(), &mut machine, &mut ports, None, SCOPE).expect(&rt, "memory");
     assert!(rt; end == End::Stopped && machine.owing.settles == 0);
     assert!(rt; is_told(ports.seen().expect(&rt, "memory"), 1, 9));
     drop(ports);
     let mut ports = edge_of(&rt, rt.alloc(), b"+-abAB");
-    let end = serve(rt.alloc(), &mut machine, &mut ports, None, NOTHING_FETCHED).expect(
-        &rt, "memory",
-    );
+    let end = serve(rt.alloc(), &mut machine, &mut ports, None, SCOPE).expect(&rt, "memory");
     assert!(rt; end == End::Stopped && machine.owing.settles == 1);
     assert!(rt; is_told(ports.seen().expect(&rt, "memory"), 0, 7));
     assert!(rt; is_told(ports.seen().expect(&rt, "memory"), 1, 9));
@@ -319,14 +316,7 @@ fn upkeeps_of(rt: &impl Abort, alloc: Global, left: u8, reads: &[(u8, u16)]) -> 
     let machine = Slicing { left, made: 0 };
     let mut machine = InMemory { machine };
     let mut ports = reads_of(rt, alloc, reads);
-    let end = serve(
-        alloc,
-        &mut machine,
-        &mut ports,
-        Some(upkeep),
-        NOTHING_FETCHED,
-    )
-    .expect(rt, "memory");
+    let end = serve(alloc, &mut machine, &mut ports, Some(upkeep), SCOPE).expect(rt, "memory");
     assert!(rt; end == End::Stopped);
     drop(ports);
     machine.machine.made

@@ -4,7 +4,7 @@ ghost use Rattle.std.specs.Prelude.{◌≡◌, ◌==◌, ◌∷◌, [], ℕ, Boo
 ghost use Rattle.std.specs.Prelude.{refl};
 ghost use Rattle.std.proofs.Common.{inl};
 
-use hub::{End, Fetches, MemoryPorts, Move, PeerNews, Seen, Upkeep, serve};
+use hub::{End, MemoryPorts, Move, PeerNews, Scope, Seen, Upkeep, serve};
 use rest_machine::Settling;
 use std::alloc::Global;
 use std::process::Abort;
@@ -201,11 +201,12 @@ fn came_of(rt: &impl Abort, alloc: Global, letters: &[u8], settles: u8) -> (End,
         requests: &[&[15, 0], &[15, 1]],
         full: &[1],
     };
-    let fetches = Fetches {
+    let scope = Scope {
+        connections: 256,
         peers: 1,
         seconds: 5,
     };
-    let end = serve(alloc, &mut machine, &mut ports, Some(upkeep), fetches).expect(rt, "memory");
+    let end = serve(alloc, &mut machine, &mut ports, Some(upkeep), scope).expect(rt, "memory");
     let mut seen = Vec::new(alloc);
     for call in ports.seen().expect(rt, "memory") {
         if let Some(letter) = letter_of(call) {

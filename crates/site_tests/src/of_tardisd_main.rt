@@ -1,7 +1,7 @@
 use crate::disks::store_of;
 use crate::sites::keys;
 use crate::talks::bytes_of;
-use command_words::{DaemonPlan, DoorKind, DoorPlan, Place};
+use command_words::{Capacity, DaemonPlan, DoorKind, DoorPlan, Place};
 use hub::{End, MemoryPorts, Move, Seen};
 use std::alloc::Global;
 use std::process::Abort;
@@ -15,9 +15,17 @@ use tardisd_main::{
 /// The place of the site.
 const PLACE: Place = Place { sites: 3, site: 2 };
 
-/// Words of a server with two doors, that fetches from two peers.
-const LINE: &str =
-    "--site 2 --tidy --listen unix:s --peers unix:p --sites 3 --peer unix:k --peer k:1 --every 60 --mode 0660 --idle 600";
+/// Words of a server with two doors, that fetches from two peers, and for how much it has room.
+const LINE: &str = concat!(
+    "--site 2 --tidy --listen unix:s --peers unix:p --sites 3 --peer unix:k --peer k:1 --every 60 --mode 0660 --idle 600 ",
+    "--connections 5 --states 65000 --sessions 4096"
+);
+
+const CAPACITY: Capacity = Capacity {
+    states: 65_000,
+    sessions: 4_096,
+    connections: 5,
+};
 
 /// The words of a line.
 pub(crate) fn words_of(rt: &impl Abort, alloc: Global, line: &str) -> Vec<String> {
@@ -55,7 +63,7 @@ fn are_peers(peers: &[&str]) -> bool {
 fn is_planned(plan: &DaemonPlan<'_>) -> bool {
     let is_fetching = are_peers(plan.peers.as_slice()) && plan.every == 60;
     let is_of_sockets = plan.mode == 0o660 && plan.idle == Some(600);
-    let is_of_site = plan.place == PLACE && plan.tidy;
+    let is_of_site = plan.place == PLACE && plan.tidy && plan.capacity == CAPACITY;
     are_these(plan.doors.as_slice()) && is_of_site && is_fetching && is_of_sockets
 }
 
@@ -76,8 +84,8 @@ fn are_refused(alloc: Global, words: &[String]) -> bool {
 }
 
 /// Words that have no form: without a door; an option that speaks of something which isn't there; a mode or a number of no range; a
-/// peer without a path; and a sixteenth peer.
-const UNPLANNED: [&str; 9] = [
+/// peer without a path; a number that is there twice; and a sixteenth peer.
+const UNPLANNED: [&str; 15] = [
     "--sites 2",
     "--listen unix:s --every 5",
     "--listen h:1 --mode 0600",
@@ -86,6 +94,12 @@ const UNPLANNED: [&str; 9] = [
     "--listen unix:s --idle 0",
     "--listen unix:s --peer k:1 --every 86401",
     "--listen unix:s --peer unix:",
+    "--listen unix:s --states 0",
+    "--listen unix:s --states 65001",
+    "--listen unix:s --sessions 4097",
+    "--listen unix:s --connections 0",
+    "--listen unix:s --connections 4097",
+    "--listen unix:s --connections 2 --connections 2",
     "--listen h:1 --peer a:1 --peer a:1 --peer a:1 --peer a:1 --peer a:1 --peer a:1 --peer a:1 --peer a:1 --peer a:1 --peer a:1 --peer a:1 --peer a:1 --peer a:1 --peer a:1 --peer a:1 --peer a:1",
 ];
 
@@ -293,9 +307,9 @@ fn count_comers(rt: &impl Abort, ports: &MemoryPorts) -> (usize, usize) {
 }
 
 #[test]
-fn the_257th_connection_waits(rt: HostRuntime) {
-    let mut ports = MemoryPorts::new(rt.alloc(), comers(&rt, rt.alloc(), 257));
+fn the_sixth_connection_of_five_waits(rt: HostRuntime) {
+    let mut ports = MemoryPorts::new(rt.alloc(), comers(&rt, rt.alloc(), 6));
     assert!(rt; is_served(&rt, rt.alloc(), &mut ports));
-    assert!(rt; count_comers(&rt, &ports) == (256, 0));
+    assert!(rt; count_comers(&rt, &ports) == (5, 0));
     drop(ports);
 }

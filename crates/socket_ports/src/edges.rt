@@ -4,8 +4,10 @@ ghost use Rattle.std.specs.Prelude.{◌≡◌, ◌≤◌, ◌∷◌, [], None, l
 
 use crate::clocks::Stopwatch;
 use crate::doors::{Door, is_passing};
+use crate::idles::Idle;
 use crate::lines::Line;
 use crate::plugs::{Plug, Work};
+use crate::slots::Slots;
 use crate::streams::Stream;
 use crate::watches::Watch;
 use hub::{Connection, PeerNews, Ports, Ready, SLOTS};
@@ -20,8 +22,8 @@ use std::time::{Clock, Duration};
 /// have their slots' numbers.
 const FIRST_DOOR: usize = SLOTS;
 
-/// So many events are taken at once: one for each connection, and one for each of some doors and peers. What is left comes the next time.
-const MOST_EVENTS: usize = SLOTS + 24;
+/// So many events are taken at once. What is left comes the next time.
+const MOST_EVENTS: usize = 1_024;
 
 /// So many connections that find no room are told so at once. What is left comes in the next round.
 const MOST_TURNED_AWAY: usize = 64;
@@ -53,6 +55,9 @@ enum Step {
 ///
 /// A connection for which there is no slot is told so by one frame, and ended; it isn't offered, so nobody else sees it.
 ///
+/// A round costs as much as there are connections with something to do. Those that ask nothing are looked at once a second at most, and
+/// that only where one may ask nothing for too long.
+///
 /// It tells nothing of what it saw, but for what becomes of peers, and ends only where the system can't be waited for.
 #[derive(Drop)]
 pub struct SocketPorts<'a, R, W> {
@@ -62,18 +67,21 @@ pub struct SocketPorts<'a, R, W> {
     doors: Vec<Door>,
     /// The door whose turn is next.
     turn: usize,
+    /// So many connections may be there, and each has a slot.
+    connections: u16,
     plugs: Vec<Option<Plug>>,
-    /// How many connections there are, and no slot from `high` on has one.
+    /// How many connections there are.
     open: usize,
-    high: usize,
+    /// The slots of the connections that may have something to do. The others have nothing to do, until the system tells of them.
+    busy: Slots,
     step: Step,
-    /// The slot or the peer whose turn is next in this step.
+    /// The place among the busy ones, or the peer, whose turn is next in this step.
     next: usize,
     lines: Vec<Line>,
     /// The peer that is told the time next, if that says something.
     due: usize,
-    /// After so many milliseconds in which it asked nothing a connection is over.
-    idle: Option<u64>,
+    /// When a connection is over that asked nothing.
+    idle: Option<Idle>,
     /// The slot of which a read was offered, and how many bytes waited to be written to it then.
     heard: Option<(usize, usize)>,
     clock: Stopwatch,
@@ -81,13 +89,14 @@ pub struct SocketPorts<'a, R, W> {
 }
 
 impl<'a, R: Net + Clock, W: Watch + Drop> SocketPorts<'a, R, W> {
-    /// The connections that will come through these doors, and those to peers at these addresses. A connection that asked
-    /// nothing for so many seconds is ended.
+    /// The connections that will come through these doors, so many at once, and those to peers at these addresses. A connection that
+    /// asked nothing for so many seconds is ended, within a second behind that.
     pub fn new(
         rt: &'a R,
         alloc: Global,
         doors: Vec<Door>,
         peers: Vec<String>,
+        connections: u16,
         idle: Option<u32>,
         watch: W,
     ) -> io::Result<SocketPorts<'a, R, W>> {
@@ -104,12 +113,13 @@ impl<'a, R: Net + Clock, W: Watch + Drop> SocketPorts<'a, R, W> {
             lines.push(Line::new(address, Token(token)))?;
             token = token.saturating_add(1);
         }
-        let mut plugs = Vec::with_capacity(alloc, SLOTS)?;
-        for _ in 0..SLOTS {
+        let count = connections as usize;
+        let mut plugs = Vec::with_capacity(alloc, count)?;
+        for _ in 0..count {
             plugs.push(None)?;
         }
         let idle = match idle {
-            Some(seconds) => Some(1_000 * seconds as u64),
+            Some(seconds) => Some(Idle::new(seconds)),
             None => None,
         };
         Ok(SocketPorts {
@@ -118,9 +128,10 @@ impl<'a, R: Net + Clock, W: Watch + Drop> SocketPorts<'a, R, W> {
             events,
             doors,
             turn: 0,
+            connections,
             plugs,
             open: 0,
-            high: 0,
+            busy: Slots::new(alloc, count)?,
             step: Step::Admit,
             next: 0,
             lines,
@@ -182,7 +193,7 @@ impl<'a, R: Net + Clock, W: Watch + Drop> SocketPorts<'a, R, W> {
 
     /// Whether there is no slot for a further connection.
     fn is_full(&self) -> bool {
-        self.open >= SLOTS
+        self.open >= self.connections as usize
     }
 
     /// Whether a connection may wait at a door.
@@ -192,10 +203,14 @@ impl<'a, R: Net + Clock, W: Watch + Drop> SocketPorts<'a, R, W> {
 
     /// Whether no slot is about to be free.
     fn is_none_ending(&self) -> bool {
-        !self
-            .plugs
-            .iter()
-            .any(|plug| matches!(plug, Some(plug) if plug.is_ending()))
+        for place in 0..self.busy.len() {
+            if let Some(slot) = self.busy.at(place) {
+                if matches!(self.plugs.get(slot), Some(Some(plug)) if plug.is_ending()) {
+                    return false;
+                }
+            }
+        }
+        true
     }
 
     /// Whether something is to be done at the doors.
@@ -207,7 +222,7 @@ impl<'a, R: Net + Clock, W: Watch + Drop> SocketPorts<'a, R, W> {
     fn turn_away(&mut self) {
         for _ in 0..MOST_TURNED_AWAY {
             match self.next_stream() {
-                Some((stream, _)) => stream.turn_away(),
+                Some((stream, _)) => stream.turn_away(self.connections),
                 None => return,
             }
         }
@@ -238,11 +253,13 @@ impl<'a, R: Net + Clock, W: Watch + Drop> SocketPorts<'a, R, W> {
 
     /// The next connection that may give bytes.
     fn next_read(&mut self, connections: &[Option<Connection>]) -> Option<usize> {
-        for slot in self.next..self.high {
-            if self.may_read(connections, slot) {
-                self.next = slot.saturating_add(1);
-                self.heard = Some((slot, waiting_for(connections, slot)));
-                return Some(slot);
+        for place in self.next..self.busy.len() {
+            if let Some(slot) = self.busy.at(place) {
+                if self.may_read(connections, slot) {
+                    self.next = place.saturating_add(1);
+                    self.heard = Some((slot, waiting_for(connections, slot)));
+                    return Some(slot);
+                }
             }
         }
         None
@@ -250,16 +267,18 @@ impl<'a, R: Net + Clock, W: Watch + Drop> SocketPorts<'a, R, W> {
 
     /// The next connection that may take bytes, or that is over.
     fn next_end(&mut self, connections: &[Option<Connection>]) -> Option<Ready> {
-        for slot in self.next..self.high {
-            if let Some(work) = self.work(connections, slot) {
-                self.next = slot.saturating_add(1);
-                return Some(match work {
-                    Work::Write => Ready::Write(slot),
-                    Work::Close => Ready::Close(slot),
-                });
+        for place in self.next..self.busy.len() {
+            if let Some(slot) = self.busy.at(place) {
+                if let Some(work) = self.work(connections, slot) {
+                    self.next = place.saturating_add(1);
+                    return Some(match work {
+                        Work::Write => Ready::Write(slot),
+                        Work::Close => Ready::Close(slot),
+                    });
+                }
             }
         }
-        self.next = self.high;
+        self.next = self.busy.len();
         None
     }
 
@@ -286,7 +305,7 @@ impl<'a, R: Net + Clock, W: Watch + Drop> SocketPorts<'a, R, W> {
     /// Whether a connection asked nothing for too long.
     fn is_idle(&self, plug: &Plug) -> bool {
         match self.idle {
-            Some(idle) => plug.rests_for(idle, self.clock.now()) == 0,
+            Some(idle) => plug.rests_for(idle.after(), self.clock.now()) == 0,
             None => false,
         }
     }
@@ -393,10 +412,8 @@ impl<'a, R: Net + Clock, W: Watch + Drop> SocketPorts<'a, R, W> {
             }
         }
         if let Some(idle) = self.idle {
-            for slot in 0..self.high {
-                if let Some(Some(plug)) = self.plugs.get(slot) {
-                    least = least.min(plug.rests_for(idle, now));
-                }
+            if self.open > 0 {
+                least = least.min(idle.rests_for(now));
             }
         }
         if least == u64::MAX {
@@ -413,14 +430,42 @@ impl<'a, R: Net + Clock, W: Watch + Drop> SocketPorts<'a, R, W> {
         }
     }
 
-    /// Whether something is known to be left to do behind a round, so that the next one needn't be waited for.
-    fn is_left(&self, connections: &[Option<Connection>], peers: &[Peer]) -> bool {
-        for slot in 0..self.high {
-            if self.may_read(connections, slot) || self.work(connections, slot).is_some() {
-                return true;
+    /// Passes over the connections that have nothing to do any more.
+    fn sweep(&mut self, connections: &[Option<Connection>]) {
+        for _ in 0..self.busy.len() {
+            if let Some(slot) = self.busy.take() {
+                if self.may_read(connections, slot) || self.work(connections, slot).is_some() {
+                    self.busy.add(slot);
+                }
             }
         }
-        self.is_asked() || self.is_peer_left(peers)
+    }
+
+    /// Looks for connections that asked nothing for too long, if it is time for that: they have to be ended.
+    fn look_for_idle(&mut self) {
+        let now = self.clock.now();
+        let Some(mut idle) = self.idle else {
+            return;
+        };
+        if !idle.is_due(now) {
+            return;
+        }
+        let mut least = idle.after();
+        for slot in 0..self.plugs.len() {
+            if let Some(Some(plug)) = self.plugs.get(slot) {
+                match plug.rests_for(idle.after(), now) {
+                    0 => self.busy.add(slot),
+                    rest => least = least.min(rest),
+                }
+            }
+        }
+        idle.looked(now, least);
+        self.idle = Some(idle);
+    }
+
+    /// Whether something is known to be left to do behind a round, so that the next one needn't be waited for.
+    fn is_left(&self, peers: &[Peer]) -> bool {
+        self.busy.len() > 0 || self.is_asked() || self.is_peer_left(peers)
     }
 
     /// Begins a round: notes what the system tells, once those are turned away who found no slot in the last one. Where nothing is left to do it is waited for.
@@ -430,11 +475,13 @@ impl<'a, R: Net + Clock, W: Watch + Drop> SocketPorts<'a, R, W> {
         peers: &[Peer],
     ) -> io::Result<()> {
         self.tell_reached(peers);
+        self.sweep(connections);
         if self.is_full() && self.is_asked() {
             self.turn_away();
         }
         self.look();
-        let timeout = if self.is_left(connections, peers) {
+        self.look_for_idle();
+        let timeout = if self.is_left(peers) {
             Some(Duration::ZERO)
         } else {
             self.longest_wait(peers)
@@ -461,6 +508,7 @@ impl<'a, R: Net + Clock, W: Watch + Drop> SocketPorts<'a, R, W> {
                 }
             } else if let Some(Some(plug)) = self.plugs.get_mut(slot) {
                 plug.note(event, self.poll.registry());
+                self.busy.add(slot);
             }
         }
     }
@@ -477,7 +525,7 @@ impl<'a, R: Net + Clock, W: Watch + Drop> SocketPorts<'a, R, W> {
             None => return None,
         }
         self.open = self.open.saturating_add(1);
-        self.high = self.high.max(slot.saturating_add(1));
+        self.busy.add(slot);
         Some(number)
     }
 }
@@ -541,9 +589,6 @@ impl<R: Net + Clock, W: Watch + Drop> Ports for SocketPorts<'_, R, W> {
             *place = None;
         }
         self.open = self.open.saturating_sub(1);
-        if self.open == 0 {
-            self.high = 0;
-        }
         self.knock_all();
     }
 

@@ -7,8 +7,10 @@
 mod clocks;
 mod doors;
 mod edges;
+mod idles;
 mod lines;
 mod plugs;
+mod slots;
 mod streams;
 mod unix_doors;
 mod watches;

@@ -1,9 +1,11 @@
 //! Connections over Unix sockets and TCP.
 
-ghost use Rattle.std.specs.Prelude.{◌≡◌, length};
+ghost use Rattle.std.specs.Prelude.{◌≡◌, ◌∷◌, length};
 ghost use Rattle.std.specs.Io.{ReadsAtMost, WritesAtMost};
+ghost use Rattle.tardis_base.specs.declared.replies.Reply.TheVariants.{Refused};
+ghost use Rattle.tardis_base.specs.declared.replies.Refusal.TheVariants.{SessionsFull};
+ghost use Rattle.wire_talk.specs.Spellings.{reply_spelling};
 
-use hub::SLOTS;
 use mio::net::{TcpStream, UnixStream};
 use mio::{Interest, Registry, Token};
 use std::io::{self, Read, Write};
@@ -17,19 +19,22 @@ pub(crate) enum Stream {
     Tcp(TcpStream),
 }
 
-/// What a connection is told that finds no room: the reply Refused, with the refusal SessionsFull and how many there are.
-const FULL: [u8; 8] = [
-    0,
-    0,
-    0,
-    4,
-    reply_codes::REFUSED,
-    refusal_codes::SESSIONS_FULL,
-    1,
-    0,
-];
-
-const _: () = prove!(SLOTS == 256);
+/// What a connection is told that finds no room: the frame of the reply Refused, with the refusal SessionsFull and how many there are.
+fn full(connections: u16) -> [u8; 8]
+    ensures { result ≡ 0 ∷ 0 ∷ 0 ∷ 4 ∷ reply_spelling (Refused (SessionsFull connections)) }
+{
+    let [high, low] = connections.to_be_bytes();
+    [
+        0,
+        0,
+        0,
+        4,
+        reply_codes::REFUSED,
+        refusal_codes::SESSIONS_FULL,
+        high,
+        low,
+    ]
+}
 
 impl Stream {
     pub(crate) fn register(
@@ -96,10 +101,10 @@ impl Stream {
         }
     }
 
-    /// Tells the peer that there is no room for it. What it sent by now is read, so that the system, which gives up a connection
+    /// Tells the peer that there is no room for it beside so many connections. What it sent by now is read, so that the system, which gives up a connection
     /// with bytes that nobody read, delivers what was told.
-    pub(crate) fn turn_away(mut self) {
-        let _ = self.write(&FULL);
+    pub(crate) fn turn_away(mut self, connections: u16) {
+        let _ = self.write(&full(connections));
         let _ = match &self {
             Stream::Unix(stream) => stream.shutdown(Shutdown::Write),
             Stream::Tcp(stream) => stream.shutdown(Shutdown::Write),

@@ -67,7 +67,16 @@ impl<'a> SocketDoors<'a> {
             peers.push(String::from_str(self.rt.alloc(), address)?)?;
         }
         let watch = PeersTold::new(self.rt);
-        SocketPorts::new(self.rt, self.rt.alloc(), opened, peers, plan.idle, watch)
+        let connections = plan.capacity.connections;
+        SocketPorts::new(
+            self.rt,
+            self.rt.alloc(),
+            opened,
+            peers,
+            connections,
+            plan.idle,
+            watch,
+        )
     }
 
     /// Opens a door behind the others.

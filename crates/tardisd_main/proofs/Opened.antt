@@ -2,7 +2,6 @@
 use Rattle.std.proofs.Common.{◌≡◌, true, List, [], ◌∷◌, length, ℕ, Option, Result, subst}
 use Rattle.tardis_io.specs.Faults.{Rose}
 use Rattle.disk_store.specs.declared.disks.Disk.{Ghosts as ADisk}
-use Rattle.command_words.specs.declared.commands.Place.{Place}
 use Rattle.command_words.specs.declared.daemons.DaemonPlan.{DaemonPlan}
 use Rattle.command_words.specs.Daemons.{Daemon, daemon_of}
 use Rattle.hub.specs.declared.ports.Seen.{Seen}
@@ -25,11 +24,11 @@ use Rattle.tardisd_main.specs.Files.{front_at, not_opened, IsRefused}
 use Rattle.tardisd_main.specs.Stores.{GoesOn, ServedFrom}
 
 module _ {K : Type 0} (k : ADisk K) where
-  pub is_refused : (place : Place) (life : List ℕ) (site : CoreWithLives) (disk : K) (front : LogFront) (why : OpenEnd) (back : K) (end : DaemonEnd)
-      → front ≡ front_at place life → AcquaintedStands site (opens_at place) → end ≡ not_opened why
+  pub is_refused : (asked : Daemon) (life : List ℕ) (site : CoreWithLives) (disk : K) (front : LogFront) (why : OpenEnd) (back : K) (end : DaemonEnd)
+      → front ≡ front_at asked life → AcquaintedStands site (opens_at asked) → end ≡ not_opened why
       → IsLogRefused resting k site disk front why back → (why ≡ DiskFailed → Rose (k.faults disk) (k.faults back))
-      → (k.honest disk → OpeningLeaves k disk back front) → IsRefused k place life disk back end
-  is_refused place life site disk front why back end is stands tells refused cause safe =
+      → (k.honest disk → OpeningLeaves k disk back front) → IsRefused k asked life disk back end
+  is_refused asked life site disk front why back end is stands tells refused cause safe =
       record {
         why = why;
         tells = tells;
@@ -40,7 +39,7 @@ module _ {K : Type 0} (k : ADisk K) where
 
   pub served_from : {P : Type 0} (opens : Daemon → Result P GateFault → Type 0) (seen : P → Option (List Seen)) (plan : DaemonPlan) (end : DaemonEnd)
       (life : List ℕ) (site : CoreWithLives) (disk back : K) (front : LogFront) (it : OpenedLog CoreWithLives K)
-      → front ≡ front_at plan.place life → AcquaintedStands site (opens_at plan.place)
+      → front ≡ front_at (daemon_of plan) life → AcquaintedStands site (opens_at (daemon_of plan))
       → (bodies : List (List ℕ)) × IsOpened resting k site disk front it bodies
       → IsWanted it.found.front front × (it.found.is_new ≡ true → it.found.front ≡ front)
       → (k.honest disk → OpeningLeaves k disk it.log.file.disk front)
@@ -49,7 +48,7 @@ module _ {K : Type 0} (k : ADisk K) where
       → ServedFrom opens seen k (daemon_of plan) life end disk back
   served_from opens seen plan end life site disk back front it is stands opened wanted safe goes_on =
       let of = opened.1 in
-      let led = of.stands (opens_at plan.place) stands in
+      let led = of.stands (opens_at (daemon_of plan)) stands in
       record {
         found = it.found;
         bodies = opened.0;

@@ -56,7 +56,7 @@ module _ {D P S K : Type 0} (opens : Daemon → Result P GateFault → Type 0) (
   pub with_file : (old new : D) (was mid now : S) (disk back : K) (end : DaemonEnd) → Opens path (st.told was) (st.told mid) (Ok disk)
       → st.told now ≡ with_back (st.told mid) back → (st.honest was → k.honest disk) → (st.honest was → st.honest now)
       → st.faults was ≤ st.faults mid → st.faults now ≡ count_after (k.faults back) (st.faults mid)
-      → (IsRefused k asked.place life disk back end × (new ≡ old)) ⊎ ServedFrom opens seen k asked life end disk back
+      → (IsRefused k asked life disk back end × (new ≡ old)) ⊎ ServedFrom opens seen k asked life end disk back
       → KeepsAs opens seen st k life asked path old new was now end
   with_file old new was mid now disk back end opened put honest still later counts became =
       record {

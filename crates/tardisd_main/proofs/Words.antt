@@ -77,7 +77,7 @@ module _ {D P S K : Type 0} (opens : Daemon → Result P GateFault → Type 0) (
     (life : List ℕ) (asked : Daemon) (path : List ℕ) (old new : D) (was now : S) (end : DaemonEnd) where
   with_file : WithFile opens seen st k life asked path old new was now end → Served end
   with_file of =
-      ⊎_elim (λ (p : IsRefused k asked.place life of.disk of.back end × (new ≡ old)). ends_so end (not_opened p.0.why) p.0.tells (refused_by p.0.why))
+      ⊎_elim (λ (p : IsRefused k asked life of.disk of.back end × (new ≡ old)). ends_so end (not_opened p.0.why) p.0.tells (refused_by p.0.why))
       (λ (p : ServedFrom opens seen k asked life end of.disk of.back).
       kept_over seen k asked life end p.found.front p.bodies p.site of.back p.goes_on.0 p.goes_on.1.1) of.became
 

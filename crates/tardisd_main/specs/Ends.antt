@@ -17,7 +17,7 @@ file_number NotALog = 13
 file_number (OtherVersion version) = 13
 file_number BadFront = 13
 file_number (OtherSite place) = 13
-file_number OtherLimits = 13
+file_number (OtherLimits states sessions) = 13
 file_number (Damaged place) = 13
 file_number (Unfit place) = 13
 

@@ -2,9 +2,7 @@
 use Rattle.std.specs.Prelude.{◌≡◌, ℕ, List, map, Option}
 use Rattle.tardis_io.specs.Faults.{Rose}
 use Rattle.disk_store.specs.declared.disks.Disk.{Ghosts as ADisk}
-use Rattle.command_words.specs.declared.commands.Place.{Place}
-use Rattle.command_words.specs.Places.{program_limits}
-use Rattle.command_words.specs.Daemons.{Daemon}
+use Rattle.command_words.specs.Daemons.{Daemon, daemon_limits}
 use Rattle.hub.specs.declared.ports.Seen.{Seen}
 use Rattle.hub.specs.declared.serves.End.{End}
 use Rattle.hub.specs.Settlings.{PlainSettling, behind_doors}
@@ -25,13 +23,13 @@ use Rattle.site_doors.specs.Kept.{resting, kept_doors}
 use Rattle.tardisd_main.specs.declared.endings.FileFault.TheVariants.{Disk as DiskFails, NotALog as IsNoLog, OtherVersion as IsOtherVersion, BadFront as HasBadFront, OtherSite as IsOtherSite, OtherLimits as HasOtherLimits, Damaged as IsDamagedAt, Unfit as IsUnfitAt}
 use Rattle.tardisd_main.specs.declared.endings.DaemonEnd.{DaemonEnd}
 use Rattle.tardisd_main.specs.declared.endings.DaemonEnd.TheVariants.{NoMemory as WantedMemory, File}
-use Rattle.tardisd_main.specs.Sites.{upkeep_rule, fetches_of, begin_life, opens_at}
+use Rattle.tardisd_main.specs.Sites.{upkeep_rule, scope_of, begin_life, opens_at}
 
--- what the file of a site at a place says first, and, where it is new, of which life it is
-abbrev pub front_at : Place → List ℕ → LogFront
-front_at place life =
-    let limits = program_limits place.sites in
-    record { sites = limits.sites; own = place.site; max_kept = limits.max_kept; max_path = limits.max_path; max_sessions = limits.max_sessions; life = life }
+-- what the file of the site that is asked for says first, and, where it is new, of which life it is
+abbrev pub front_at : Daemon → List ℕ → LogFront
+front_at asked life =
+    let limits = daemon_limits asked in
+    record { sites = limits.sites; own = asked.place.site; max_kept = limits.max_kept; max_path = limits.max_path; max_sessions = limits.max_sessions; life = life }
 
 -- the site with what lasted of its requests, behind its doors, which settles by putting that into its file
 abbrev pub kept_site : PlainSettling (Kept Acquainted)
@@ -47,7 +45,7 @@ not_opened NotALog = File IsNoLog
 not_opened (OtherVersion version) = File (IsOtherVersion version)
 not_opened BadFront = File HasBadFront
 not_opened (OtherSite front) = File (IsOtherSite (record { sites = front.sites; site = front.own }))
-not_opened (OtherLimits front) = File HasOtherLimits
+not_opened (OtherLimits front) = File (HasOtherLimits front.max_kept front.max_sessions)
 not_opened (Damaged place) = File (IsDamagedAt place)
 not_opened (Unfit place) = File (IsUnfitAt place)
 not_opened NoMemory = WantedMemory
@@ -55,22 +53,22 @@ not_opened DiskFailed = File DiskFails
 
 module _ {K : Type 0} (k : ADisk K) where
   -- The log on a disk wasn't opened. Unless a call of the disk failed, it was only read, and what it reads is why: it has no log that
-  -- leads on from the site of the place; or memory was wanting. Whatever failed, a crash left what was there.
-  pub record IsRefused (place : Place) (life : List ℕ) (disk back : K) (end : DaemonEnd) : Type 0 where
+  -- leads on from the site that is asked for; or memory was wanting. Whatever failed, a crash left what was there.
+  pub record IsRefused (asked : Daemon) (life : List ℕ) (disk back : K) (end : DaemonEnd) : Type 0 where
     pub why : OpenEnd
     pub tells : end ≡ not_opened why
-    pub bytes : (site : CoreWithLives) × (AcquaintedStands site (opens_at place) × IsLogRefused resting k site disk (front_at place life) why back)
+    pub bytes : (site : CoreWithLives) × (AcquaintedStands site (opens_at asked) × IsLogRefused resting k site disk (front_at asked life) why back)
     pub cause : why ≡ DiskFailed → Rose (k.faults disk) (k.faults back)
-    pub safe : k.honest disk → OpeningLeaves k disk back (front_at place life)
+    pub safe : k.honest disk → OpeningLeaves k disk back (front_at asked life)
 
   -- A site was found on a disk: what its file was found to be, the bodies in it, and the site to which they lead from the one that
-  -- opens at the place.
-  pub record IsFound (place : Place) (life : List ℕ) (disk : K) (found : FoundLog) (bodies : List (List ℕ)) (site : Acquainted) : Type 0 where
-    pub held : k.honest disk → Finds (k.reads disk) (front_at place life) found bodies
-    pub wanted : IsWanted found.front (front_at place life)
-    pub taken : TakesAll resting (opens_at place) bodies site
+  -- opens as is asked for.
+  pub record IsFound (asked : Daemon) (life : List ℕ) (disk : K) (found : FoundLog) (bodies : List (List ℕ)) (site : Acquainted) : Type 0 where
+    pub held : k.honest disk → Finds (k.reads disk) (front_at asked life) found bodies
+    pub wanted : IsWanted found.front (front_at asked life)
+    pub taken : TakesAll resting (opens_at asked) bodies site
     pub between : K
-    pub safe : k.honest disk → OpeningLeaves k disk between (front_at place life)
+    pub safe : k.honest disk → OpeningLeaves k disk between (front_at asked life)
 
   -- A disk keeps what lasted: there is a moment for each time that all was settled, and each image that a crash might have left from
   -- then on holds at least what had lasted by then, in a log of this front, and nothing but what lasted, in order.
@@ -80,8 +78,8 @@ module _ {K : Type 0} (k : ADisk K) where
     pub counts : map (λ mark. mark.count) marks ≡ kept.settles
     pub safe : k.honest disk → IsSafe k disk front kept.things marks
 
-  -- A site that was found on a disk was served: a run of a hub from there on, once it was asked to begin this life, with the upkeep and the
-  -- peers that are asked for and what the edge saw, in which nothing is told before the disk keeps it.
+  -- A site that was found on a disk was served: a run of a hub from there on, once it was asked to begin this life, with the upkeep, the
+  -- connections and the peers that are asked for and what the edge saw, in which nothing is told before the disk keeps it.
   abbrev pub ServesFile : Daemon → (life : List ℕ) → LogFront → List (List ℕ) → Acquainted → K → End → (before after : Option (List Seen)) → Type 0
   ServesFile asked life front bodies site back end before after =
-      IsRun kept_site (upkeep_rule asked.tidy) (fetches_of asked) (λ kept. Keeps back front kept) (begun site bodies life) end before after
+      IsRun kept_site (upkeep_rule asked.tidy) (scope_of asked) (λ kept. Keeps back front kept) (begun site bodies life) end before after

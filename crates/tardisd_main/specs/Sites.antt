@@ -5,10 +5,8 @@ use Rattle.tardis_base.specs.declared.requests.Request.TheVariants.{RaiseAuto, T
 use Rattle.tardis_base.specs.declared.replies.Reply.TheVariants.{Tidied}
 use Rattle.wire_talk.specs.Spellings.{request_spelling, reply_spelling}
 use Rattle.wire_lives.specs.declared.life_codes.TheConstants.{BEGIN_LIFE}
-use Rattle.command_words.specs.declared.commands.Place.{Place}
-use Rattle.command_words.specs.Places.{program_limits}
-use Rattle.command_words.specs.Daemons.{Daemon}
-use Rattle.hub.specs.declared.ports.Fetches.{Fetches}
+use Rattle.command_words.specs.Daemons.{Daemon, daemon_limits}
+use Rattle.hub.specs.declared.ports.Scope.{Scope}
 use Rattle.hub.specs.declared.ports.Seen.{Seen}
 use Rattle.hub.specs.declared.serves.End.{End}
 use Rattle.hub.specs.Settlings.{PlainSettling, behind_doors}
@@ -32,25 +30,25 @@ upkeep_rule true = Some record {
   full = reply_spelling (Tidied 64);
 }
 
--- from the peers that are asked for, and as often as is asked
-abbrev pub fetches_of : Daemon → Fetches
-fetches_of asked = record { peers = length asked.peers; seconds = asked.every }
+-- with as many connections as are asked for; from the peers that are asked for, and as often as is asked
+abbrev pub scope_of : Daemon → Scope
+scope_of asked = record { connections = asked.capacity.connections; peers = length asked.peers; seconds = asked.every }
 
 -- the request by which a site begins this life, unless it has one
 abbrev pub begin_life : List ℕ → Event
 begin_life life = (0, BEGIN_LIFE ∷ life)
 
--- the site that opens at a place, and knows no life
-abbrev pub opens_at : Place → Acquainted
-opens_at place = unacquainted (opening (program_limits place.sites) place.site)
+-- the site that opens where it is asked for, with the limits that are asked for, and knows no life
+abbrev pub opens_at : Daemon → Acquainted
+opens_at asked = unacquainted (opening (daemon_limits asked) asked.place.site)
 
 -- the site with the lives that it knows, in memory and behind its doors: it owes nothing, and settling leaves it as it is
 abbrev pub asked_site : PlainSettling Acquainted
 asked_site = behind_doors acquainted_machine (seen_through acquainted_machine site_doors) (λ a. Unit {0}) (λ a. a)
 
--- A run of a hub over the plain site that opens at the place that is asked for and then begins this life, behind its doors, to a sound
--- site, with the upkeep and the peers that are asked for, and what the edge saw.
+-- A run of a hub over the plain site that opens as is asked for and then begins this life, behind its doors, to a sound site, with the
+-- upkeep, the connections and the peers that are asked for, and what the edge saw.
 abbrev pub ServesPlace : Daemon → (life : List ℕ) → End → (before after : Option (List Seen)) → Type 0
 ServesPlace asked life end before after =
-    IsRun asked_site (upkeep_rule asked.tidy) (fetches_of asked) (λ a. IsSound a.site) (acquainted_machine.step (opens_at asked.place) (begin_life life)) end
+    IsRun asked_site (upkeep_rule asked.tidy) (scope_of asked) (λ a. IsSound a.site) (acquainted_machine.step (opens_at asked) (begin_life life)) end
     before after

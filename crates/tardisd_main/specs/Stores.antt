@@ -47,7 +47,7 @@ module _ {P K : Type 0} (opens : Daemon → Result P GateFault → Type 0) (seen
     pub found : FoundLog
     pub bodies : List (List ℕ)
     pub site : Acquainted
-    pub is_found : IsFound k asked.place life disk found bodies site
+    pub is_found : IsFound k asked life disk found bodies site
     pub goes_on : GoesOn found.front bodies site back
 
 module _ {D P S K : Type 0} (opens : Daemon → Result P GateFault → Type 0) (seen : P → Option (List Seen)) (st : AStore S K) (k : ADisk K)
@@ -75,7 +75,7 @@ module _ {D P S K : Type 0} (opens : Daemon → Result P GateFault → Type 0) (
     pub handled : OpenedAndBack path (st.told was) (st.told now) disk back
     pub is_honest : st.honest was → k.honest disk
     pub counted : 0 < k.faults back → Rose (st.faults was) (st.faults now)
-    pub became : (IsRefused k asked.place life disk back end × (new ≡ old)) ⊎ ServedFrom opens seen k asked life end disk back
+    pub became : (IsRefused k asked life disk back end × (new ≡ old)) ⊎ ServedFrom opens seen k asked life end disk back
 
   -- how a server ends whose site is kept in the file at the path
   pub record KeepsAs : Type 0 where

@@ -4,6 +4,7 @@ ghost use Rattle.std.specs.Prelude.{◌≡◌, ◌⊎◌, ◌≤◌, None, Some,
 ghost use Rattle.std.specs.String.{string_bytes};
 ghost use Rattle.command_words.specs.Settings.{settings};
 ghost use Rattle.command_words.specs.Daemons.{Daemon, daemon, daemon_of};
+ghost use Rattle.command_words.specs.Capacity.{IsCapacity};
 ghost use Rattle.command_words.specs.Places.{IsPlace};
 
 use crate::endings::DaemonEnd;
@@ -15,6 +16,7 @@ use std::alloc::Global;
 pub fn plan_of(alloc: Global, words: &[String]) -> Result<DaemonPlan<'_>, DaemonEnd>
     ensures plan { IfOk result (λ plan. daemon (settings (map (λ w. string_bytes w) words.now)) ≡ Some (daemon_of plan)) }
     ensures place { IfOk result (λ plan. IsPlace plan.place) }
+    ensures capacity { IfOk result (λ plan. IsCapacity plan.capacity) }
     ensures peers { IfOk result (λ plan. length plan.peers.items ≤ 15) }
     ensures refused { IfErr result (λ end.
         ((end ≡ DaemonEnd.Usage) × (daemon (settings (map (λ w. string_bytes w) words.now)) ≡ None))

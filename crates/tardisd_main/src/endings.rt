@@ -39,8 +39,8 @@ pub enum FileFault {
     BadFront,
     /// It is the log of the site at this other place.
     OtherSite(Place),
-    /// It is the log of a site with larger limits.
-    OtherLimits,
+    /// It is the log of a site with larger limits: it keeps so many states, or has so many sessions open.
+    OtherLimits { states: u32, sessions: u16 },
     /// What stands at this place is neither the next group nor what a crash leaves.
     Damaged(u64),
     /// What the group at this place says doesn't fit the site that those before it lead to, under its limits.
@@ -93,7 +93,7 @@ impl FileFault {
             | FileFault::OtherVersion(_)
             | FileFault::BadFront
             | FileFault::OtherSite(_)
-            | FileFault::OtherLimits
+            | FileFault::OtherLimits { .. }
             | FileFault::Damaged(_)
             | FileFault::Unfit(_) => 13,
         }
@@ -117,7 +117,7 @@ impl fmt::Display for DaemonEnd {
             DaemonEnd::Told => Ok(()),
             DaemonEnd::Usage => write!(
                 f,
-                "usage: tardisd --listen ADDR | --clients ADDR | --peers ADDR .. [--mode MODE] [--idle SECONDS] [--peer ADDR .. [--every SECONDS]] [--sites M] [--site N] [--tidy] [--file PATH] (ADDR is unix:PATH or HOST:PORT)"
+                "usage: tardisd --listen ADDR | --clients ADDR | --peers ADDR .. [--mode MODE] [--idle SECONDS] [--connections N] [--sessions N] [--states N] [--peer ADDR .. [--every SECONDS]] [--sites M] [--site N] [--tidy] [--file PATH] (ADDR is unix:PATH or HOST:PORT)"
             ),
             DaemonEnd::WriteFailed => write!(f, "tardisd: write fault"),
             DaemonEnd::NoMemory => write!(f, "tardisd: out of memory"),
@@ -176,9 +176,9 @@ impl fmt::Display for FileFault {
                 f,
                 "the file is that of site {site} of {sites}, and was left as it is: start it with --sites {sites} --site {site}"
             ),
-            FileFault::OtherLimits => write!(
+            FileFault::OtherLimits { states, sessions } => write!(
                 f,
-                "the file is that of a site with larger limits, and was left as it is: start it with limits that are as large"
+                "the file is that of a site with larger limits, and was left as it is: start it with --states {states} --sessions {sessions}, or more of either"
             ),
             FileFault::Damaged(place) => write!(
                 f,

@@ -3,6 +3,7 @@
 ghost use Rattle.std.specs.Prelude.{◌≡◌, ◌⊎◌, ◌<◌, ◌+◌, ◌≤◌, ℕ, List, true, false, length};
 ghost use Rattle.tardis_io.specs.Faults.{Rose};
 ghost use Rattle.command_words.specs.Daemons.{daemon_of};
+ghost use Rattle.command_words.specs.Capacity.{IsCapacity};
 ghost use Rattle.command_words.specs.Places.{IsPlace};
 ghost use Rattle.log_groups.specs.Items.{IsFront};
 ghost use Rattle.log_groups.specs.declared.fronts.LogFront.{LogFront};
@@ -47,10 +48,11 @@ pub fn serve_file<D: Doors, K: BytewiseDisk, S: Store<Disk = K>>(
     store: &mut S,
 ) -> DaemonEnd
     requires place { IsPlace plan.now.place }
+    requires capacity { IsCapacity plan.now.capacity }
     requires few { length plan.now.peers.items ≤ 15 }
     ensures { KeepsAs D.opens D.Ports.seen S.Store K.Disk life (daemon_of plan.now) path.now doors.old doors.new store.old store.new result }
 {
-    match RestSite::new(alloc, keys, plan.place.limits(), plan.place.site) {
+    match RestSite::new(alloc, keys, plan.limits(), plan.place.site) {
         Ok(site) => serve_stored(alloc, site, life, plan, path, doors, store),
         Err(NoMemory) => DaemonEnd::NoMemory,
     }
@@ -68,8 +70,9 @@ fn serve_stored<D: Doors, K: BytewiseDisk, S: Store<Disk = K>>(
     store: &mut S,
 ) -> DaemonEnd
     requires place { IsPlace plan.now.place }
+    requires capacity { IsCapacity plan.now.capacity }
     requires few { length plan.now.peers.items ≤ 15 }
-    requires opens { AcquaintedStands site (opens_at plan.now.place) }
+    requires opens { AcquaintedStands site (opens_at (daemon_of plan.now)) }
     ensures { KeepsAs D.opens D.Ports.seen S.Store K.Disk life (daemon_of plan.now) path.now doors.old doors.new store.old store.new result }
 {
     match store.open_file(path) {
@@ -103,12 +106,13 @@ fn serve_from<D: Doors, K: BytewiseDisk>(
     doors: &mut D,
 ) -> (DaemonEnd, K)
     requires place { IsPlace plan.now.place }
+    requires capacity { IsCapacity plan.now.capacity }
     requires few { length plan.now.peers.items ≤ 15 }
-    requires opens { AcquaintedStands site (opens_at plan.now.place) }
-    ensures { (IsRefused K.Disk plan.now.place life disk result.1 result.0 × (doors.new ≡ doors.old))
+    requires opens { AcquaintedStands site (opens_at (daemon_of plan.now)) }
+    ensures { (IsRefused K.Disk (daemon_of plan.now) life disk result.1 result.0 × (doors.new ≡ doors.old))
         ⊎ ServedFrom D.opens D.Ports.seen K.Disk (daemon_of plan.now) life result.0 disk result.1 }
 {
-    match open_log(alloc, site, disk, &front_of(plan.place, life)) {
+    match open_log(alloc, site, disk, &front_of(plan, life)) {
         Ok(opened) => {
             let OpenedLog { log, found } = opened;
             let told = found_site(log.machine(), &found);
@@ -162,15 +166,16 @@ fn serve_ports<P: Ports + Drop, K: BytewiseDisk>(
     }
 }
 
-/// What the file of the site at a place says first.
-fn front_of(place: Place, life: [u8; 16]) -> LogFront
-    ensures front { result ≡ front_at place life }
+/// What the file of the site that is asked for says first.
+fn front_of(plan: &DaemonPlan<'_>, life: [u8; 16]) -> LogFront
+    requires capacity { IsCapacity plan.now.capacity }
+    ensures front { result ≡ front_at (daemon_of plan.now) life }
     ensures fits { IsFront result }
 {
-    let limits = place.limits();
+    let limits = plan.limits();
     LogFront {
         sites: limits.sites,
-        own: place.site,
+        own: plan.place.site,
         max_kept: limits.max_kept,
         max_path: limits.max_path,
         max_sessions: limits.max_sessions,
@@ -204,7 +209,10 @@ fn end_of(end: OpenEnd) -> DaemonEnd
             sites: front.sites,
             site: front.own,
         }),
-        OpenEnd::OtherLimits(_) => FileFault::OtherLimits,
+        OpenEnd::OtherLimits(front) => FileFault::OtherLimits {
+            states: front.max_kept,
+            sessions: front.max_sessions,
+        },
         OpenEnd::Damaged(place) => FileFault::Damaged(place),
         OpenEnd::Unfit(place) => FileFault::Unfit(place),
     };

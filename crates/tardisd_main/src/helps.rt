@@ -23,6 +23,7 @@ pub const USAGE: &str = "\
 tardisd: serves one site of a branch-and-merge key-value store to many clients
 
 usage: tardisd DOOR.. [--mode MODE] [--idle SECONDS]
+               [--connections N] [--sessions N] [--states N]
                [--peer ADDR.. [--every SECONDS]]
                [--sites M] [--site N] [--tidy] [--file PATH]
                             serve at 1 to 8 doors, as site N of M sites (1 of 1),
@@ -37,13 +38,16 @@ doors: --listen ADDR        all that there is may be asked
        --clients ADDR       for clients: sessions, transactions, merges, reads
        --peers ADDR         for other sites: they may fetch, and nothing else
                             ADDR is unix:PATH, which is its owner's alone, or
-                            HOST:PORT, which is everybody's who reaches it; at
-                            most 256 connections at once, at all doors together,
-                            and a further one is told so and ended
+                            HOST:PORT, which is everybody's who reaches it
        --mode MODE          the mode of those that are Unix sockets, in three or
                             four octal digits (0600)
        --idle SECONDS       a connection that asks nothing for so long, from 1 to
                             86400, is ended
+
+room:  --connections N      so many connections at once, at all doors together,
+                            from 1 to 4096 (256); one more is told so and ended
+       --sessions N         so many open sessions, from 1 to 4096 (256)
+       --states N           so many kept states, from 1 to 65000 (16384)
 
 peers: --peer ADDR          fetch what is new from the site at this address, a
                             door for all or for peers, at most 15 times

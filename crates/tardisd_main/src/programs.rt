@@ -7,6 +7,7 @@ ghost use Rattle.tardis_io.specs.Faults.{Rose};
 ghost use Rattle.tardis_io.specs.Told.{WhileTold};
 ghost use Rattle.command_words.specs.Helps.{AskDaemonUsage, AskVersion};
 ghost use Rattle.command_words.specs.Daemons.{daemon_of};
+ghost use Rattle.command_words.specs.Capacity.{IsCapacity};
 ghost use Rattle.command_words.specs.Places.{IsPlace};
 ghost use Rattle.tardisd_main.specs.Runs.{AreNone, KeepsFile, Serves, ServesAs, Tells};
 ghost use Rattle.tardisd_main.specs.Stores.{KeepsAs};
@@ -114,6 +115,7 @@ fn serve_plan<D: Doors, K: BytewiseDisk, S: Store<Disk = K>>(
     store: &mut S,
 ) -> DaemonEnd
     requires place { IsPlace plan.now.place }
+    requires capacity { IsCapacity plan.now.capacity }
     requires few { length plan.now.peers.items ≤ 15 }
     ensures memory { (daemon_of plan.now).file ≡ None → ServesAs D.opens D.Ports.seen life doors.old doors.new (daemon_of plan.now) result × (store.new ≡ store.old) }
     ensures file { (path : List ℕ) → (daemon_of plan.now).file ≡ Some path
@@ -135,6 +137,7 @@ fn open_and_serve<D: Doors>(
     doors: &mut D,
 ) -> DaemonEnd
     requires place { IsPlace plan.now.place }
+    requires capacity { IsCapacity plan.now.capacity }
     requires few { length plan.now.peers.items ≤ 15 }
     ensures { ServesAs D.opens D.Ports.seen life doors.old doors.new (daemon_of plan.now) result }
 {

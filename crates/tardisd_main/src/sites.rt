@@ -2,15 +2,17 @@
 
 ghost use Rattle.std.specs.Prelude.{◌≡◌, ◌⊎◌, ◌∷◌, ◌<◌, ◌≤◌, ◌+◌, ℕ, true, length, option_map, IfOk, IfSome, OnOk, OnErr};
 ghost use Rattle.wire_lives.specs.declared.life_codes.TheConstants.{BEGIN_LIFE};
+ghost use Rattle.hub.specs.Connections.{slots};
 ghost use Rattle.hub.specs.Settlings.{behind_doors};
 ghost use Rattle.hub.specs.Upkeeps.{rule_of};
 ghost use Rattle.hub.specs.Runs.{close, IsRun};
 ghost use Rattle.command_words.specs.Daemons.{daemon_of};
+ghost use Rattle.command_words.specs.Capacity.{IsCapacity};
 ghost use Rattle.command_words.specs.Places.{IsPlace};
-ghost use Rattle.tardisd_main.specs.Sites.{upkeep_rule, fetches_of, begin_life, ServesPlace};
+ghost use Rattle.tardisd_main.specs.Sites.{upkeep_rule, scope_of, begin_life, ServesPlace};
 
 use command_words::DaemonPlan;
-use hub::{End, Fetches, Ports, Upkeep, serve};
+use hub::{End, Ports, Scope, Upkeep, serve};
 use rest_machine::Settling;
 use rest_site::RestSite;
 use site_doors::AskedSite;
@@ -51,12 +53,13 @@ pub fn serve_place<P: Ports>(
     ports: &mut P,
 ) -> Result<End, NoMemory>
     requires place { IsPlace plan.now.place }
+    requires capacity { IsCapacity plan.now.capacity }
     requires few { length plan.now.peers.items ≤ 15 }
     ensures served { IfOk result (λ end. ServesPlace (daemon_of plan.now) life end (P.seen ports.old) (P.seen ports.new)) }
     ensures settled { IfOk result (λ end. end ≡ End.Unsettled → ⊥) }
     ensures nothing { OnErr result (ports.new ≡ ports.old) }
 {
-    match RestSite::new(alloc, keys, plan.place.limits(), plan.place.site) {
+    match RestSite::new(alloc, keys, plan.limits(), plan.place.site) {
         Ok(site) => serve_machine(alloc, AskedSite { alloc, site }, life, plan, ports),
         Err(NoMemory) => Err(NoMemory),
     }
@@ -71,11 +74,11 @@ fn serve_machine<M: Settling, P: Ports>(
     plan: &DaemonPlan<'_>,
     ports: &mut P,
 ) -> Result<End, NoMemory>
-    requires sure { (n : ℕ) → n < 256 → M.plain.is_sure (n + 1, close) ≡ true }
+    requires sure { (n : ℕ) → n < slots → M.plain.is_sure (n + 1, close) ≡ true }
     requires faultless { (m : M) → M.faults m ≡ 0 }
     requires few { length plan.now.peers.items ≤ 15 }
     ensures served { IfOk result (λ end. (s : M.Plain) → M.stands machine s
-        → IsRun (behind_doors M.plain M.through M.is_settled M.settled) (upkeep_rule plan.now.tidy) (fetches_of (daemon_of plan.now)) (λ t. (m : M) × M.stands m t)
+        → IsRun (behind_doors M.plain M.through M.is_settled M.settled) (upkeep_rule plan.now.tidy) (scope_of (daemon_of plan.now)) (λ t. (m : M) × M.stands m t)
         (M.plain.step s (begin_life life)) end (P.seen ports.old) (P.seen ports.new)) }
     ensures settled { IfOk result (λ end. end ≡ End.Unsettled → ⊥) }
     ensures nothing { OnErr result (ports.new ≡ ports.old) }
@@ -92,10 +95,10 @@ pub(crate) fn serve_alive<M: Settling, P: Ports>(
     plan: &DaemonPlan<'_>,
     ports: &mut P,
 ) -> Result<End, NoMemory>
-    requires sure { (n : ℕ) → n < 256 → M.plain.is_sure (n + 1, close) ≡ true }
+    requires sure { (n : ℕ) → n < slots → M.plain.is_sure (n + 1, close) ≡ true }
     requires few { length plan.now.peers.items ≤ 15 }
     ensures served { IfOk result (λ end. (s : M.Plain) → M.stands machine.old s
-        → IsRun (behind_doors M.plain M.through M.is_settled M.settled) (upkeep_rule plan.now.tidy) (fetches_of (daemon_of plan.now)) (M.stands machine.new)
+        → IsRun (behind_doors M.plain M.through M.is_settled M.settled) (upkeep_rule plan.now.tidy) (scope_of (daemon_of plan.now)) (M.stands machine.new)
         (M.plain.step s (begin_life life)) end (P.seen ports.old) (P.seen ports.new)) }
     ensures unsettled { IfOk result (λ end. end ≡ End.Unsettled → 0 < M.faults machine.new) }
     ensures stands { OnErr result ((s : M.Plain) → M.stands machine.old s → M.stands machine.new s ⊎ M.stands machine.new (M.plain.step s (begin_life life))) }
@@ -103,13 +106,7 @@ pub(crate) fn serve_alive<M: Settling, P: Ports>(
     ensures opening { M.opening machine.new ≡ M.opening machine.old }
 {
     match begin_life(alloc, machine, life) {
-        Ok(()) => serve(
-            alloc,
-            machine,
-            ports,
-            upkeep_of(plan.tidy),
-            fetches_of(plan),
-        ),
+        Ok(()) => serve(alloc, machine, ports, upkeep_of(plan.tidy), scope_of(plan)),
         Err(NoMemory) => Err(NoMemory),
     }
 }
@@ -133,12 +130,13 @@ fn life_request(life: [u8; 16]) -> [u8; 17]
     request
 }
 
-/// From which peers a hub fetches, and how often.
-fn fetches_of(plan: &DaemonPlan<'_>) -> Fetches
+/// For how many connections a hub has slots, from how many peers it fetches, and how often.
+fn scope_of(plan: &DaemonPlan<'_>) -> Scope
     requires few { length plan.now.peers.items ≤ 15 }
-    ensures { result ≡ fetches_of (daemon_of plan.now) }
+    ensures { result ≡ scope_of (daemon_of plan.now) }
 {
-    Fetches {
+    Scope {
+        connections: plan.capacity.connections,
         peers: plan.peers.len() as u8,
         seconds: plan.every,
     }

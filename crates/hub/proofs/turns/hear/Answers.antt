@@ -11,14 +11,16 @@ returns-then-wants_read-clause-turned g c =
     c.in-Some.connection c.receive.new.self c.args.tally.now c.receive.new.tally (g.P.Ports.seen c.args.ports.now) (g.P.Ports.seen c.read-count.new.self)
     (sym c.take_connection.ensures.was ∙ c.in-Some.is) c.put_connection.ensures.there (λ n other. c.put_connection.ensures.others n other ∙ c.take_connection.ensures.others n other)
     c.receive.ensures.door (c.wants_read.ensures.yes c.if-wants_read.true).1 c.requires.room c.receive.ensures.served c.receive.ensures.stopped c.read-count.ensures.told
+    (c.put_connection.ensures.slots ∙ c.take_connection.ensures.slots)
 
 pub returns-else-wants_read-clause-turned : goal.returns-else-wants_read-clause-turned
 returns-else-wants_read-clause-turned g c =
     rested (behind_doors g.M.Settling.plain g.M.Settling.through g.M.Settling.is_settled g.M.Settling.settled) (g.M.Settling.stands c.args.machine.now) (g.M.Settling.stands c.args.machine.now) c.args.connections.now
     c.put_connection-else-wants_read.new.connections (Read c.args.slot) c.args.tally.now (g.P.Ports.seen c.args.ports.now) (g.P.Ports.seen c.args.ports.now)
     (λ s f. f) (all_stay c.args.slot c.args.connections.now c.put_connection-else-wants_read.new.connections (λ n other. c.put_connection-else-wants_read.ensures.others n other
-    ∙ c.take_connection.ensures.others n other) ((sym c.take_connection.ensures.was ∙ c.in-Some.is) ∙ sym c.put_connection-else-wants_read.ensures.there)) refl
-    (λ fetches turns fits. shut_rests fetches c.args.connections.now turns c.args.slot c.in-Some.connection fits (sym c.take_connection.ensures.was ∙ c.in-Some.is)
+    ∙ c.take_connection.ensures.others n other) ((sym c.take_connection.ensures.was ∙ c.in-Some.is) ∙ sym c.put_connection-else-wants_read.ensures.there))
+    (c.put_connection-else-wants_read.ensures.slots ∙ c.take_connection.ensures.slots) refl
+    (λ scope turns slots fits. shut_rests scope c.args.connections.now turns c.args.slot c.in-Some.connection fits (sym c.take_connection.ensures.was ∙ c.in-Some.is)
     (c.wants_read.ensures.no c.if-wants_read.false))
 
 pub returns-in-None-clause-turned : goal.returns-in-None-clause-turned
@@ -26,5 +28,5 @@ returns-in-None-clause-turned g c =
     rested (behind_doors g.M.Settling.plain g.M.Settling.through g.M.Settling.is_settled g.M.Settling.settled) (g.M.Settling.stands c.args.machine.now) (g.M.Settling.stands c.args.machine.now) c.args.connections.now c.take_connection.new.connections
     (Read c.args.slot) c.args.tally.now (g.P.Ports.seen c.args.ports.now) (g.P.Ports.seen c.args.ports.now)
     (λ s f. f) (all_stay c.args.slot c.args.connections.now c.take_connection.new.connections c.take_connection.ensures.others
-    ((sym c.take_connection.ensures.was ∙ c.in-None.is) ∙ sym c.take_connection.ensures.free)) refl
-    (λ fetches turns fits. no_read fetches c.args.connections.now turns c.args.slot fits (sym c.take_connection.ensures.was ∙ c.in-None.is))
+    ((sym c.take_connection.ensures.was ∙ c.in-None.is) ∙ sym c.take_connection.ensures.free)) c.take_connection.ensures.slots refl
+    (λ scope turns slots fits. no_read scope c.args.connections.now turns c.args.slot fits (sym c.take_connection.ensures.was ∙ c.in-None.is))

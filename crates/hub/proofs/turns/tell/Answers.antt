@@ -18,6 +18,7 @@ returns-in-Ok-clause-turned g c = λ on.
     c.sent.ensures.door refl c.sent.ensures.served c.sent.ensures.stopped
     (subst (λ b. Tells (g.P.Ports.seen c.args.ports.now) (g.P.Ports.seen c.write-count.new.self)
     (WroteTo c.args.slot (length b) (take c.write-count.result b) ∷ [])) c.to_write.ensures c.write-count.ensures.told)
+    (c.put_connection.ensures.slots ∙ c.take_connection.ensures.slots)
 
 pub returns-in-Err-clause-unsettled : goal.returns-in-Err-clause-unsettled
 returns-in-Err-clause-unsettled g c = λ is. (
@@ -32,8 +33,9 @@ returns-else-has_to_write-clause-turned g c = λ on.
     c.put_connection-else-has_to_write.new.connections (Write c.args.slot) c.args.tally.now (g.P.Ports.seen c.args.ports.now) (g.P.Ports.seen c.args.ports.now)
     (λ s f. f) (all_stay c.args.slot c.args.connections.now c.put_connection-else-has_to_write.new.connections
     (λ n other. c.put_connection-else-has_to_write.ensures.others n other ∙ c.take_connection.ensures.others n other)
-    ((sym c.take_connection.ensures.was ∙ c.in-Some.is) ∙ sym c.put_connection-else-has_to_write.ensures.there)) refl
-    (λ fetches turns fits. empty_rests fetches c.args.connections.now turns c.args.slot c.in-Some.connection fits (sym c.take_connection.ensures.was ∙ c.in-Some.is)
+    ((sym c.take_connection.ensures.was ∙ c.in-Some.is) ∙ sym c.put_connection-else-has_to_write.ensures.there))
+    (c.put_connection-else-has_to_write.ensures.slots ∙ c.take_connection.ensures.slots) refl
+    (λ scope turns slots fits. empty_rests scope c.args.connections.now turns c.args.slot c.in-Some.connection fits (sym c.take_connection.ensures.was ∙ c.in-Some.is)
     (c.has_to_write.ensures.no c.if-has_to_write.false))
 
 pub returns-in-None-clause-turned : goal.returns-in-None-clause-turned
@@ -41,5 +43,5 @@ returns-in-None-clause-turned g c = λ on.
     rested (behind_doors g.M.Settling.plain g.M.Settling.through g.M.Settling.is_settled g.M.Settling.settled) (g.M.Settling.stands c.args.machine.now) (g.M.Settling.stands c.args.machine.now) c.args.connections.now c.take_connection.new.connections
     (Write c.args.slot) c.args.tally.now (g.P.Ports.seen c.args.ports.now) (g.P.Ports.seen c.args.ports.now)
     (λ s f. f) (all_stay c.args.slot c.args.connections.now c.take_connection.new.connections c.take_connection.ensures.others
-    ((sym c.take_connection.ensures.was ∙ c.in-None.is) ∙ sym c.take_connection.ensures.free)) refl
-    (λ fetches turns fits. no_write fetches c.args.connections.now turns c.args.slot fits (sym c.take_connection.ensures.was ∙ c.in-None.is))
+    ((sym c.take_connection.ensures.was ∙ c.in-None.is) ∙ sym c.take_connection.ensures.free)) c.take_connection.ensures.slots refl
+    (λ scope turns slots fits. no_write scope c.args.connections.now turns c.args.slot fits (sym c.take_connection.ensures.was ∙ c.in-None.is))

@@ -1,4 +1,5 @@
 use Rattle.std.proofs.Common.{inl, inr, refl}
+use Rattle.command_words.specs.Daemons.{daemon_of}
 use Rattle.tardisd_main.proofs.Opened.{served_from, is_refused}
 use Rattle.tardisd_main.proofs.files.serve_from.Goals as goal
 
@@ -11,7 +12,7 @@ returns-in-Ok g c =
 pub returns-in-Err : goal.returns-in-Err
 returns-in-Err g c =
     inl (
-      is_refused g.K.Disk c.args.plan.now.place c.args.life c.args.site c.args.disk c.front_of.result c.in-Err.refused.end c.in-Err.refused.disk c.end_of.result
+      is_refused g.K.Disk (daemon_of c.args.plan.now) c.args.life c.args.site c.args.disk c.front_of.result c.in-Err.refused.end c.in-Err.refused.disk c.end_of.result
           c.front_of.ensures.front c.requires.opens c.end_of.ensures c.in-Err.ensures.refused c.in-Err.ensures.cause c.in-Err.ensures.any_moment,
       refl,
     )
