@@ -247,7 +247,7 @@ def main():
     options = dict(zip(words[::2], words[1::2]))
     sites, site = int(options.get("--sites", "1")), int(options.get("--site", "1"))
     try:
-        log = LogFile(options["--file"], Front(sites, site, 16_384, 4_096, 256, b""), wrong)
+        log = LogFile(options["--file"], Front(sites, site, int(options.get("--states", "16384")), 65_000, int(options.get("--sessions", "256")), b""), wrong)
     except Refused as refused:
         print(refused, file=sys.stderr)
         sys.exit(refused.status)

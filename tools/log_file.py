@@ -27,7 +27,7 @@ class Front(NamedTuple):
 
 
 #: of a site that is alone, as the program makes it
-FRONT = Front(1, 1, 16_384, 4_096, 256, bytes(range(LIFE)))
+FRONT = Front(1, 1, 16_384, 65_000, 256, bytes(range(LIFE)))
 
 
 class Record(NamedTuple):
