@@ -134,6 +134,7 @@ fn serve_log<D: Doors, K: BytewiseDisk>(
     plan: &DaemonPlan<'_>,
     doors: &mut D,
 ) -> (DaemonEnd, K)
+    requires capacity { IsCapacity plan.now.capacity }
     requires few { length plan.now.peers.items ≤ 15 }
     ensures { (bodies : List (List ℕ)) (site : Acquainted) (marks : List Mark) → Stands resting K.Disk log (starts site bodies) marks
         → GoesOn D.opens D.Ports.seen K.Disk (daemon_of plan.now) life result.0 log.file.front bodies site result.1 }
@@ -155,6 +156,7 @@ fn serve_ports<P: Ports + Drop, K: BytewiseDisk>(
     plan: &DaemonPlan<'_>,
     ports: P,
 ) -> (DaemonEnd, K)
+    requires capacity { IsCapacity plan.now.capacity }
     requires few { length plan.now.peers.items ≤ 15 }
     ensures { (bodies : List (List ℕ)) (site : Acquainted) (marks : List Mark) → Stands resting K.Disk log (starts site bodies) marks
         → ServedOver P.seen K.Disk (daemon_of plan.now) life result.0 log.file.front bodies site result.1 ports }
@@ -168,6 +170,7 @@ fn serve_ports<P: Ports + Drop, K: BytewiseDisk>(
 
 /// What the file of the site that is asked for says first.
 fn front_of(plan: &DaemonPlan<'_>, life: [u8; 16]) -> LogFront
+    requires place { IsPlace plan.now.place }
     requires capacity { IsCapacity plan.now.capacity }
     ensures front { result ≡ front_at (daemon_of plan.now) life }
     ensures fits { IsFront result }

@@ -76,6 +76,7 @@ fn serve_machine<M: Settling, P: Ports>(
 ) -> Result<End, NoMemory>
     requires sure { (n : ℕ) → n < slots → M.plain.is_sure (n + 1, close) ≡ true }
     requires faultless { (m : M) → M.faults m ≡ 0 }
+    requires capacity { IsCapacity plan.now.capacity }
     requires few { length plan.now.peers.items ≤ 15 }
     ensures served { IfOk result (λ end. (s : M.Plain) → M.stands machine s
         → IsRun (behind_doors M.plain M.through M.is_settled M.settled) (upkeep_rule plan.now.tidy) (scope_of (daemon_of plan.now)) (λ t. (m : M) × M.stands m t)
@@ -96,6 +97,7 @@ pub(crate) fn serve_alive<M: Settling, P: Ports>(
     ports: &mut P,
 ) -> Result<End, NoMemory>
     requires sure { (n : ℕ) → n < slots → M.plain.is_sure (n + 1, close) ≡ true }
+    requires capacity { IsCapacity plan.now.capacity }
     requires few { length plan.now.peers.items ≤ 15 }
     ensures served { IfOk result (λ end. (s : M.Plain) → M.stands machine.old s
         → IsRun (behind_doors M.plain M.through M.is_settled M.settled) (upkeep_rule plan.now.tidy) (scope_of (daemon_of plan.now)) (M.stands machine.new)
