@@ -1,9 +1,10 @@
-//! Laws of the runs of a hub over a site behind its doors. Each call does nothing.
+//! Laws of the runs of a hub over a site behind its doors, and of the bodies of its file. Each call does nothing.
 
 ghost use Rattle.hub.specs.DoorLaws.{TrailBehindDoors};
 ghost use Rattle.site_lives.specs.Acquainted.{acquainted_machine};
 ghost use Rattle.site_doors.specs.Rules.{site_doors};
 ghost use Rattle.site_doors.specs.Kept.{served};
+ghost use Rattle.site_doors.specs.Larger.{FilesOpenUnderLargerLimits};
 
 use crate::asked_logs::AskedLog;
 use crate::asked_sites::AskedSite;
@@ -11,6 +12,7 @@ use disk_store::BytewiseDisk;
 use hub::one_trail_behind_doors_as_seen;
 use rest_machine::Settling;
 use rest_site::RestSite;
+use site_lives::larger_limits_take_the_same_bytes;
 
 /// Over a site in memory behind its doors the requests that came in are one run of the plain site with the lives that it knows, in
 /// order, with the replies that were given to them; and each other one was answered at its door, from the site at its place.
@@ -25,4 +27,12 @@ pub fn one_trail_of_a_kept_site<K: BytewiseDisk>()
     ensures { TrailBehindDoors (served ⟦<AskedLog<K> as Settling>⟧) acquainted_machine site_doors (λ kept. kept.state) }
 {
     one_trail_behind_doors_as_seen::<AskedLog<K>, RestSite>();
+}
+
+/// The bodies of a file that lead from the site that opens to another, one behind another, lead from the one that opens under larger
+/// limits to the same site but for these. So a site whose limits were raised has all that its file had.
+pub fn files_open_under_larger_limits()
+    ensures { FilesOpenUnderLargerLimits }
+{
+    larger_limits_take_the_same_bytes();
 }

@@ -12,6 +12,6 @@ mod rows;
 
 pub use asked_logs::AskedLog;
 pub use asked_sites::AskedSite;
-pub use laws::{one_trail_of_a_kept_site, one_trail_of_a_site};
+pub use laws::{files_open_under_larger_limits, one_trail_of_a_kept_site, one_trail_of_a_site};
 pub use passages::{FOR_ALL, FOR_CLIENTS, FOR_PEERS};
 pub use rows::doors_are_told;
