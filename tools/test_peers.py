@@ -347,10 +347,10 @@ def test_idle(folder, path):
                 thread.join()
             assert 1.9 <= result["took"] < 5, "it ended after %.1f seconds" % result["took"]
         assert busy.stat().sessions == 1 and busy.begin() == (0, 0)
-    # a peer is such a client too: it is ended between two exchanges, and nobody is told
+    # a peer is such a client too: it is ended between two exchanges (a second late at most), and nobody is told
     one_at, other_at = path("d2"), path("d3")
-    one = Server(one_at, "--sites", "2", "--site", "1", "--idle", "1", "--peer", other_at, "--every", "2")
-    other = Server(other_at, "--sites", "2", "--site", "2", "--idle", "1", "--peer", one_at, "--every", "2")
+    one = Server(one_at, "--sites", "2", "--site", "1", "--idle", "1", "--peer", other_at, "--every", "3")
+    other = Server(other_at, "--sites", "2", "--site", "2", "--idle", "1", "--peer", one_at, "--every", "3")
     with running(one, other):
         for number in range(1, 4):
             one.commit(x=b"%d" % number)
