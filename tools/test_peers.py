@@ -7,6 +7,7 @@ The program is ./tardisd of this repository, unless another is named. First it i
 
 - two servers that fetch from each other come to read the same, over Unix sockets and over TCP, and tell that each reached the other;
 - one that is killed and started again on its file goes on, and is told as lost and as reached again, once each;
+- two with the same rules come to one leaf, which is there after a kill too, and a fork that the rules refuse stays;
 - one in memory that is started again is refused as another life, and told once; so are a peer with the own number, one of another
   number of sites, one that doesn't introduce itself, one that doesn't tell what it knows, and one that nobody listens for;
 - a peer that takes a call and never answers is given up, and told, and clients are served meanwhile;
@@ -206,6 +207,32 @@ def test_killed_with_a_file(folder, path):
     say("a site that is killed and started again on its file goes on")
 
 
+def test_joined_by_rules(folder, path):
+    one_at, other_at = path("r1"), path("r2")
+    rules = ("--rules", "cart=set,=last,price=refuse")
+    one = Server(one_at, "--sites", "2", "--site", "1", "--peer", other_at, "--every", "1", *rules, "--file", os.path.join(folder, "joined"))
+    other = Server(other_at, "--sites", "2", "--site", "2", "--peer", one_at, "--every", "1", *rules)
+    with running(one, other):
+        until(lambda: is_reached(one, other_at) and is_reached(other, one_at), of="a line")
+        one.commit(cart=b"bread,milk")
+        other.commit(cart=b"eggs")
+        until(lambda: are_equal(one, other) and len(one.read_at_leaves()) == 1, of="one leaf")
+        (read,) = one.read_at_leaves().values()
+        assert read == {b"cart": b"bread,eggs,milk"}, read
+        # what joined them is there again after a kill
+        before = one.read_at_leaves(), one.counts()
+        one.kill()
+        one.start()
+        assert (one.read_at_leaves(), one.counts()) == before
+        # and what no rule settles stays for clients
+        one.commit(price=b"20")
+        other.commit(price=b"25")
+        until(lambda: are_equal(one, other), of="the other's price")
+        time.sleep(2)
+        assert are_equal(one, other) and len(one.read_at_leaves()) == 2, one.read_at_leaves()
+    say("two servers with rules come to one leaf, and leave what these refuse")
+
+
 def is_told_once(server, address, words):
     """Whether the server tells so of the peer at an address, once in this life, within some seconds and tries."""
     until(lambda: any(words in line for line in server.told(address)), of="%r" % words)
@@ -374,6 +401,7 @@ def test_rows(folder):
     test_two_that_fetch(folder, (path("t1"), path("t2")))
     test_two_that_fetch(folder, tuple("127.0.0.1:%d" % free_port() for _ in range(2)))
     test_killed_with_a_file(folder, path)
+    test_joined_by_rules(folder, path)
     test_other_lives(folder, path)
     test_who_is_not_met(folder, path)
     test_idle(folder, path)

@@ -372,6 +372,70 @@ class Words(unittest.TestCase):
     def test_a_server_that_does_not_collect_keeps_all(self):
         self.assertEqual(self.kept_after(1000, ()), (1001, 1001))
 
+    def fork(self, first, second, *keys):
+        """Two sessions read and write the same keys at the root, each what it has for them. Gives what the commits were told."""
+        told = []
+        for connection, values in ((first, 0), (second, 1)):
+            ask(connection, OPEN, b"\x02\x03" + state(0, 0))
+            ask(connection, *[get(name) for name, _ in keys])
+            told.append(ask(connection, *[put(name, value[values]) for name, value in keys], COMMIT)[-1])
+            ask(connection, CLOSE)
+        return told
+
+    def leaves(self, connection):
+        (told,) = ask(connection, b"\x12")
+        return [told[7 + 6 * place:13 + 6 * place] for place in range(struct.unpack(">H", told[5:7])[0])]
+
+    def read_anew(self, connection, name):
+        """What a session that opens reads where any state will do."""
+        told = ask(connection, OPEN, BEGIN, get(name), CLOSE)
+        return told[2][7 + 2:]
+
+    RULES = "cart/=set,visits/=count,price/=refuse"
+
+    def test_a_fork_that_rules_settle_is_joined(self):
+        server = Server(self.address, ("--rules", self.RULES))
+        self.addCleanup(server.end)
+        with server.connect() as first, server.connect() as second:
+            told = self.fork(first, second, (b"cart/1", (b"bread,milk", b"eggs")), (b"visits/1", (b"3", b"4")))
+            self.assertEqual([one[1:7] for one in told], [state(1, 1), state(1, 2)])
+            self.assertEqual(self.leaves(first), [state(1, 3)])
+            self.assertEqual(self.read_anew(first, b"cart/1"), b"bread,eggs,milk")
+            self.assertEqual(self.read_anew(second, b"visits/1"), b"7")
+
+    def test_a_fork_that_rules_refuse_stays_and_keeps_no_others_apart_for_long(self):
+        server = Server(self.address, ("--rules", self.RULES, "--tidy"))
+        self.addCleanup(server.end)
+        with server.connect() as first, server.connect() as second:
+            self.fork(first, second, (b"price/1", (b"20", b"25")))
+            self.assertEqual(self.leaves(first), [state(1, 1), state(1, 2)])
+            # a third one beside them, which read what they wrote: 1.4 joins it with the first, since they have no key in common, once
+            # 64 replies counted since the search that settled nothing, the commit's among them
+            ask(first, OPEN, b"\x02\x03" + state(0, 0), get(b"price/1"), put(b"cart/1", b"milk"), COMMIT)
+            ask(first, *[STAT] * 62)
+            self.assertEqual(self.leaves(second), [state(1, 1), state(1, 2), state(1, 3)])
+            ask(first, STAT)
+            self.assertEqual(self.leaves(second), [state(1, 2), state(1, 4)])
+
+    def test_many_forks_are_joined_whatever_comes_at_once(self):
+        server = Server(self.address, ("--rules", "=last", "--tidy"))
+        self.addCleanup(server.end)
+        with server.connect() as connection:
+            ask(connection, OPEN, *[b"\x02\x03" + state(0, 0), get(b"x"), put(b"x", b"1"), COMMIT] * 40)
+            for _ in range(40):
+                ask(connection, STAT)
+            self.assertEqual(self.leaves(connection), [state(1, 79)])
+
+    def test_nobody_else_asks_a_server_to_join(self):
+        server = Server(self.address, ("--rules", self.RULES))
+        self.addCleanup(server.end)
+        with server.connect() as connection:
+            self.assertEqual(ask(connection, b"\x4a" + b"=last"), [b"\x15\x01"])
+
+    def test_words_that_are_no_rules_are_refused(self):
+        for rules in ((), ("cart",), ("cart/=sum",), ("=last,=set",)):
+            self.assertEqual(run_words("--listen", self.address, "--rules", *rules)[0], 1)
+
 
 class Connections:
     """What holds of a server at any address."""
@@ -577,6 +641,26 @@ class Capacity(unittest.TestCase):
         connection = self.connect(self.start("--states", "65000", "--sessions", "4096", "--connections", "1"))
         told = b"\x46" + struct.pack(">HHIIHQHQI", 1, 1, 65_000, 65_000, 4_096, 1 << 30, 1, 1, 1)
         self.assertEqual(ask(connection, ABOUT), [told])
+
+    def test_many_kept_states_are_told_with_the_quietest_connection(self):
+        """Past half of what there is room for, and where all is taken, once each."""
+        server = Server("127.0.0.1:%d" % free_port(), ("--states", "100", "--tidy"))
+        self.addCleanup(server.end)
+        quiet, busy = self.connect(server), self.connect(server)
+        name = "127.0.0.1:%d" % quiet.getsockname()[1]
+        self.assertEqual(ask(quiet, OPEN), [OPENED])
+        time.sleep(1.2)
+        ask(busy, OPEN_FOLLOWING, *[BEGIN, put(b"x", b"1"), COMMIT] * 64)
+        line = first_line(server.process)
+        self.assertRegex(line, r"^tardisd: 65 of 100 states are kept: the connection from %s that has been silent for [1-9]" % re.escape(name))
+        self.assertEqual(ask(busy, *[BEGIN, put(b"x", b"1"), COMMIT, ABORT] * 128)[-2], full(100))
+        self.assertRegex(first_line(server.process), r"^tardisd: 100 of 100 states are kept: ")
+        self.assertEqual(select.select([server.process.stderr], [], [], 0.5)[0], [])
+
+    def test_many_kept_states_are_told_where_nobody_collects(self):
+        server = self.start("--states", "100")
+        ask(self.connect(server), OPEN_FOLLOWING, *[BEGIN, put(b"x", b"1"), COMMIT] * 64)
+        self.assertEqual(first_line(server.process), "tardisd: 65 of 100 states are kept: nobody collects them: start it again with --tidy\n")
 
     def test_sessions_beyond_the_256th(self):
         server = self.start("--connections", "700", "--sessions", "699")

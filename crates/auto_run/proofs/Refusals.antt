@@ -26,7 +26,8 @@ use Rattle.plain_site.proofs.RepliesFrame.{AllGood, good-none, good-found}
 use Rattle.plain_site.proofs.RepliesSound.{IsRanged, sound-ranged}
 use Rattle.rule_list.specs.declared.rules.PrefixRule.{PrefixRule}
 use Rattle.merge_rules.specs.declared.steps.AutoEnd.{AutoEnd}
-use Rattle.merge_rules.specs.Auto.{AutoAnswer, value_of, unmerged, values, end_of, ended_as, merge_values, merge_both, unless_refused, auto_over, auto_step}
+use Rattle.join_rules.specs.Valued.{value_of, unmerged, values}
+use Rattle.merge_rules.specs.Auto.{AutoAnswer, end_of, ended_as, merge_values, merge_both, unless_refused, auto_over, auto_step}
 use Rattle.auto_run.specs.Telling.{CanBeTold}
 
 -- the reply is no refusal, or one that can be spelled

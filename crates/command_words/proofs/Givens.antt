@@ -5,6 +5,7 @@ use Rattle.std.proofs.lemmas.Bool.{cond-true, cond-false}
 use Rattle.command_words.specs.Settings.{Setting, values}
 use Rattle.command_words.specs.Values.{needed, number_or, number_or_none, flag, address, address_or_none, once}
 use Rattle.command_words.specs.Sockets.{mode_or}
+use Rattle.command_words.specs.Ruling.{rules_or_none}
 use Rattle.command_words.specs.Given.{IsGiven}
 use Rattle.command_words.specs.declared.settings.Given.{Given}
 
@@ -72,6 +73,12 @@ address_twice (Some v ∷ w ∷ more) two = refl
 pub address_or_none_twice : (found : List (Option (List ℕ))) → 1 < length found → None ≡ address_or_none found
 address_or_none_twice [] two = absurd (omega (arith, two))
 address_or_none_twice (v ∷ more) two = ap (option_map (λ word. Some word)) (address_twice (v ∷ more) two)
+
+pub rules_or_none_twice : (found : List (Option (List ℕ))) → 1 < length found → None ≡ rules_or_none found
+rules_or_none_twice [] two = absurd (omega (arith, two))
+rules_or_none_twice (v ∷ []) two = absurd (omega (arith, two))
+rules_or_none_twice (None ∷ w ∷ more) two = refl
+rules_or_none_twice (Some v ∷ w ∷ more) two = refl
 
 pub once_twice : (found : List (Option (List ℕ))) → 1 < length found → None ≡ once found
 once_twice [] two = absurd (omega (arith, two))

@@ -12,6 +12,7 @@ pub mod Doors
 pub mod Sockets
 pub mod Fetching
 pub mod Capacity
+pub mod Ruling
 pub mod Daemons
 pub mod Readings
 pub mod Helps

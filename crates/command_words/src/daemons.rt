@@ -14,6 +14,7 @@ use crate::commands::{Place, WordsFault};
 use crate::doors::{DoorPlan, are_doors, doors_of};
 use crate::fetching::{are_peers, peers_of, read_every};
 use crate::forms::{read_address_or_none, read_place, read_tidy};
+use crate::ruling::read_rules_text;
 use crate::settings::are_only;
 use crate::sockets::{read_idle, read_mode};
 use std::alloc::Global;
@@ -39,6 +40,8 @@ pub struct DaemonPlan<'a> {
     pub tidy: bool,
     /// The path of the file in which the site is kept.
     pub file: Option<&'a str>,
+    /// The text of the rules by which leaves are joined.
+    pub rules: Option<&'a str>,
 }
 
 /// Reads the words behind the name of `tardisd`, where they have the form. Only the lists of doors and of peers take memory. The time is in
@@ -83,6 +86,7 @@ fn plan_of<'a>(
         every: asked.every,
         tidy: asked.tidy,
         file: asked.file,
+        rules: asked.rules,
     })
 }
 
@@ -96,6 +100,7 @@ pub(crate) struct DaemonAsked<'a> {
     every: u32,
     tidy: bool,
     file: Option<&'a str>,
+    rules: Option<&'a str>,
 }
 
 /// Reads the words, where they have the form, and lists no door and no peer.
@@ -120,6 +125,7 @@ fn read_asked(words: &[String]) -> Option<DaemonAsked<'_>>
         "--every",
         "--tidy",
         "--file",
+        "--rules",
     ];
     if !are_only(words, &names) {
         return None;
@@ -145,6 +151,7 @@ fn asked_with(words: &[String], place: Place) -> Option<DaemonAsked<'_>>
     let every = read_every(words)?;
     let tidy = read_tidy(words)?;
     let file = read_address_or_none(words, "--file")?;
+    let rules = read_rules_text(words)?;
     Some(DaemonAsked {
         place,
         mode,
@@ -153,5 +160,6 @@ fn asked_with(words: &[String], place: Place) -> Option<DaemonAsked<'_>>
         every,
         tidy,
         file,
+        rules,
     })
 }

@@ -18,6 +18,7 @@ mod numbers;
 mod peers;
 mod placed;
 mod reading;
+mod ruling;
 mod settings;
 mod sockets;
 

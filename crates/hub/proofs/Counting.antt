@@ -21,7 +21,7 @@ want_none (Some rule) ys = refl
 noted_want : (tally next : TallyState) (y : List ℕ) (ys : List (List ℕ)) → y ≡ no_memory → next ≡ noted tally ys → next ≡ noted tally (y ∷ ys)
 noted_want tally next y ys is p =
     p
-    ∙ (ap (λ n. record { rule = tally.rule; count = tally.count + n; more = tally.more; backlog = tally.backlog }) (sym (want_none tally.rule ys))
+    ∙ (ap (λ n. record { rule = tally.rule; count = tally.count + n; more = tally.more; idle = tally.idle; backlog = tally.backlog }) (sym (want_none tally.rule ys))
     ∙ ap (λ z. noted tally (z ∷ ys)) (sym is))
 
 -- what answers with the count answers without it, and all replies are counted

@@ -23,7 +23,8 @@ use Rattle.hub.specs.Runs.{MaySend}
 use Rattle.hub.specs.Keeping.{Keeps, Settles, AreBefore, WentOn, IsToldBehind, FetchesOn, IsOnly, PeerTurned}
 use Rattle.hub.proofs.Holding.{each_talk}
 use Rattle.hub.proofs.Serving.{noted_none}
-use Rattle.hub.proofs.Turning.{settled_at, tells_none}
+use Rattle.hub.proofs.Tellings.{tells_none}
+use Rattle.hub.proofs.Turning.{settled_at}
 
 -- one peer had a turn, and the others had none
 went_there : (every n : ℕ) (p q : Peer) (t : PeerTurn) (old new : List Peer) (turns : ℕ → List PeerTurn) → ((k : ℕ) → IfSome (slice_get old k) (Went every (turns k))) →

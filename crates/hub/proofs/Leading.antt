@@ -1,5 +1,5 @@
 -- A run from its start to its end.
-use Rattle.std.proofs.Common.{◌≡◌, ℕ, ◌+◌, ◌-◌, inl, inr, List, [], ◌∷◌, ◌++◌, Option, Some, None, refl, sym, ap, ◌∙◌, subst, arith, append_assoc}
+use Rattle.std.proofs.Common.{◌≡◌, ℕ, ◌+◌, inl, inr, List, [], ◌∷◌, ◌++◌, Option, Some, None, refl, sym, ap, ◌∙◌, subst, arith, append_assoc}
 use Rattle.std.specs.Prelude.{Bool, true, false, ◌||◌, ◌*◌, ◌<◌, nat_le, length, slice_get, IfSome, if◌then◌else◌}
 use Rattle.std.proofs.lemmas.Option.{slice_get_cases, slice_get_within}
 use Rattle.std.specs.Option.{option_map}
@@ -16,25 +16,16 @@ use Rattle.hub.specs.declared.ports.Seen.TheVariants.{Offered}
 use Rattle.hub.specs.declared.serves.End.TheVariants.{Stopped, Spent, Unsettled}
 use Rattle.hub.specs.Settlings.{PlainSettling}
 use Rattle.hub.specs.Connections.{ConnectionState, connection_at}
-use Rattle.hub.specs.Telling.{Tells}
-use Rattle.hub.specs.Upkeeps.{UpkeepRule, TallyState, first_tally, noted, passed, paid, due_by, due_under, ends_with}
+use Rattle.hub.specs.Telling.{Tells, own_replies}
+use Rattle.hub.specs.Upkeeps.{UpkeepRule, TallyState, first_tally, noted, passed, paid, due_by, due_under, wanted, ends_with}
 use Rattle.hub.specs.Answering.{Asked}
 use Rattle.hub.specs.Turns.{Turn, Rested, Opened, Missed, TurnedAway, Received, Sent, Ended, KeptUp, Settled, PeerDid, talk, turns_of, IsPeer, ArePeers, calls_of, calls_in}
-use Rattle.hub.specs.Timing.{unpaid, has_backlog, due, IsTimely, AreTimely}
+use Rattle.hub.specs.Timing.{unpaid, has_more, has_idle, has_backlog, due, IsTimely, AreTimely}
 use Rattle.hub.specs.Runs.{counts, count_of, IsWanted, IsRun}
 use Rattle.hub.specs.Keeping.{Fits, Keeps, IsNoted, IsTally, AreBefore, WentOn, IsToldBehind, IsTold, GoesOn, FetchesOn, Turned, PeerWaits, HasWaiting, IsUnsettled, Led}
 use Rattle.hub.proofs.Holding.{each_talk}
-use Rattle.hub.proofs.Turning.{tells_none, waits_at}
-
--- what was told, and then more
-pub tells_then : (a b c : Option (List Seen)) (xs ys : List Seen) → Tells a b xs → Tells b c ys → Tells a c (xs ++ ys)
-tells_then None None None xs ys p q = tt
-tells_then None None (Some z) xs ys p q = q
-tells_then None (Some y) c xs ys p q = absurd p
-tells_then (Some x) None None xs ys p q = tt
-tells_then (Some x) None (Some z) xs ys p q = absurd q
-tells_then (Some x) (Some y) None xs ys p q = tt
-tells_then (Some x) (Some y) (Some z) xs ys p q = q ∙ (ap (λ w. w ++ ys) p ∙ append_assoc x xs ys)
+use Rattle.hub.proofs.Tellings.{tells_none, tells_then}
+use Rattle.hub.proofs.Turning.{waits_at}
 
 tells_no_more : (o : Option (List Seen)) (calls : List Seen) → Tells o None calls
 tells_no_more None calls = tt
@@ -112,9 +103,9 @@ requests_if rule true = refl
 requests_if rule false = refl
 
 pub due_is : (rule : Option UpkeepRule) (tally : TallyState) (turns : List Turn) → IsTally rule tally turns → due rule turns ≡ option_map (λ r. r.requests) (due_by tally)
-due_is None tally turns is = ap (λ rule. option_map (λ r. r.requests) (due_under rule tally.count tally.backlog)) (sym is)
+due_is None tally turns is = ap (λ rule. option_map (λ r. r.requests) (due_under rule tally.count tally.idle tally.backlog)) (sym is)
 due_is (Some rule) tally turns is =
-    requests_if rule (nat_le rule.after (unpaid rule turns) || has_backlog rule.full turns) ∙ ap (λ t. option_map (λ r. r.requests) (due_by t)) (sym is)
+    requests_if rule (nat_le (wanted rule (has_idle rule.idle turns)) (unpaid rule turns) || has_backlog rule.full turns) ∙ ap (λ t. option_map (λ r. r.requests) (due_by t)) (sym is)
 
 -- and none is due where it says none
 pub due_none : (rule : Option UpkeepRule) (tally : TallyState) (turns : List Turn) → IsTally rule tally turns → due_by tally ≡ None → due rule turns ≡ None
@@ -125,9 +116,10 @@ if_some : (rule other : UpkeepRule) (b : Bool) → (if b then Some rule else Non
 if_some rule other true is = is
 if_some rule other false is = absurd (cc)
 
-under_rule : (rule : Option UpkeepRule) (other : UpkeepRule) (count : ℕ) (backlog : Bool) → due_under rule count backlog ≡ Some other → rule ≡ Some other
-under_rule None other count backlog is = absurd (cc)
-under_rule (Some rule) other count backlog is = if_some rule other (nat_le rule.after count || backlog) is
+under_rule : (rule : Option UpkeepRule) (other : UpkeepRule) (count : ℕ) (idle backlog : Bool) → due_under rule count idle backlog ≡ Some other →
+    rule ≡ Some other
+under_rule None other count idle backlog is = absurd (cc)
+under_rule (Some rule) other count idle backlog is = if_some rule other (nat_le (wanted rule idle) count || backlog) is
 
 rule_in : (rule : Option UpkeepRule) (tally : TallyState) (turns : List Turn) → IsTally rule tally turns → tally.rule ≡ rule
 rule_in None tally turns is = is
@@ -135,7 +127,7 @@ rule_in (Some rule) tally turns is = ap (λ t. t.rule) is
 
 due_rule : (rule : Option UpkeepRule) (tally : TallyState) (turns : List Turn) (other : UpkeepRule) → IsTally rule tally turns → due_by tally ≡ Some other →
     rule ≡ Some other
-due_rule rule tally turns other is some = sym (rule_in rule tally turns is) ∙ under_rule tally.rule other tally.count tally.backlog some
+due_rule rule tally turns other is some = sym (rule_in rule tally turns is) ∙ under_rule tally.rule other tally.count tally.idle tally.backlog some
 
 -- the next turn is one of the edge where nothing is due
 timely_more : (rule : Option UpkeepRule) (tally next : TallyState) (older : List Turn) (turn : Turn) → IsNoted tally next turn → due rule older ≡ None →
@@ -219,17 +211,27 @@ behind_is rule tally turns earlier behind timely tallied none =
     ]
 
 -- an upkeep pays off what it says
-kept_under : (rule : UpkeepRule) (tally next : TallyState) (more : Bool) (bodies replies : List (List ℕ)) (older : List Turn) → IsTally (Some rule) tally older →
-    next ≡ paid tally rule.after more → more ≡ ends_with rule.full replies → IsTally (Some rule) next (KeptUp bodies replies ∷ older)
-kept_under rule tally next more bodies replies older is pays says =
-    pays ∙ (ap (λ t. paid t rule.after more) is ∙ ap (λ b. record { rule = Some rule; count = unpaid rule older - rule.after; more = b; backlog = false }) says)
+kept_under : (rule : UpkeepRule) (tally next : TallyState) (more idle : Bool) (bodies replies : List (List ℕ)) (older : List Turn) →
+    IsTally (Some rule) tally older → next ≡ paid tally rule.pays more idle → more ≡ ends_with rule.full replies → idle ≡ ends_with rule.idle replies →
+    IsTally (Some rule) next (KeptUp bodies replies ∷ older)
+kept_under rule tally next more idle bodies replies older is pays says_full says_idle =
+    let left : TallyState = record {
+      rule = Some rule;
+      count = unpaid rule older;
+      more = has_more rule.full older;
+      idle = has_idle rule.idle older;
+      backlog = has_backlog rule.full older;
+    } in
+    pays
+    ∙ (ap (λ t. paid t rule.pays more idle) is
+    ∙ (ap (λ b. paid left rule.pays b idle) says_full ∙ ap (λ b. paid left rule.pays (ends_with rule.full replies) b) says_idle))
 
-kept_tally : (rule : Option UpkeepRule) (other : UpkeepRule) (tally next : TallyState) (more : Bool) (bodies replies : List (List ℕ)) (older : List Turn) →
-    rule ≡ Some other → IsTally rule tally older → next ≡ paid tally other.after more → more ≡ ends_with other.full replies →
-    IsTally rule next (KeptUp bodies replies ∷ older)
-kept_tally rule other tally next more bodies replies older same is pays says =
+kept_tally : (rule : Option UpkeepRule) (other : UpkeepRule) (tally next : TallyState) (more idle : Bool) (bodies replies : List (List ℕ))
+    (older : List Turn) → rule ≡ Some other → IsTally rule tally older → next ≡ paid tally other.pays more idle → more ≡ ends_with other.full replies →
+    idle ≡ ends_with other.idle replies → IsTally rule next (KeptUp bodies replies ∷ older)
+kept_tally rule other tally next more idle bodies replies older same is pays says_full says_idle =
     subst (λ r. IsTally r next (KeptUp bodies replies ∷ older)) (sym same)
-    (kept_under other tally next more bodies replies older (subst (λ r. IsTally r tally older) same is) pays says)
+    (kept_under other tally next more idle bodies replies older (subst (λ r. IsTally r tally older) same is) pays says_full says_idle)
 
 -- one turn of the edge more
 pub led_more : {S : Type 0} (w : PlainSettling S) (rule : Option UpkeepRule) (scope : Scope) (from to : S → Type 0) (s : S)
@@ -253,10 +255,11 @@ led_more w rule scope from to s old new old_peers new_peers tally next later a b
 -- an upkeep more
 pub led_kept : {S : Type 0} (w : PlainSettling S) (rule : Option UpkeepRule) (scope : Scope) (from to : S → Type 0) (s : S)
     (connections : List (Option ConnectionState)) (peers : List Peer)
-    (tally next : TallyState) (a b : Option (List Seen)) (count : ℕ) (other : UpkeepRule) (more : Bool) → Led w rule scope from s connections peers tally a b count →
-    due_by tally ≡ Some other → next ≡ paid tally other.after more → ((u : S) → from u → Asked w.machine to other.requests other.full more u) →
-    Led w rule scope to s connections peers next a b (count + 1)
-led_kept w rule scope from to s connections peers tally next a b count other more led is pays asked =
+    (tally next : TallyState) (a b c : Option (List Seen)) (count : ℕ) (other : UpkeepRule) (more idle : Bool) → Led w rule scope from s connections peers tally a b count →
+    due_by tally ≡ Some other → next ≡ paid tally other.pays more idle →
+    ((u : S) → from u → Asked w.machine to other.requests other.full other.idle more idle b c u) →
+    Led w rule scope to s connections peers next a c (count + 1)
+led_kept w rule scope from to s connections peers tally next a b c count other more idle led is pays asked =
     let k = asked led.keeps.state led.keeps.stands in
     record {
       turns = KeptUp other.requests k.replies ∷ led.turns;
@@ -270,10 +273,11 @@ led_kept w rule scope from to s connections peers tally next a b count other mor
         many = led.keeps.many;
         went = led.keeps.went;
       };
-      seen = subst (λ calls. Tells a b calls) (sym (append-nil (calls_in led.turns))) led.seen;
+      seen = tells_then a b c (calls_in led.turns) (own_replies k.replies) led.seen k.told;
       many = omega (arith, led.many);
       timely = (due_is rule tally led.turns led.tallied ∙ ap (option_map (λ (r : UpkeepRule). r.requests)) is, led.timely);
-      tallied = kept_tally rule other tally next more other.requests k.replies led.turns (due_rule rule tally led.turns other led.tallied is) led.tallied pays k.says;
+      tallied = kept_tally rule other tally next more idle other.requests k.replies led.turns (due_rule rule tally led.turns other led.tallied is)
+          led.tallied pays k.says_full k.says_idle;
     }
 
 -- each peer is as its turns led to it

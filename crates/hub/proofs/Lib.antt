@@ -1,4 +1,5 @@
 -- Lemmas on what a hub answers, and on its turns.
+mod Tellings
 mod Serving
 mod Holding
 mod Turning

@@ -13,6 +13,9 @@ use Rattle.frame_cut.proofs.Joins.{frames-append, more_bodies}
 use Rattle.frame_cut.proofs.Words.{length-frame}
 use Rattle.tardis_base.specs.Sizes.{piece, longest_framed}
 use Rattle.hub.specs.Upkeeps.{UpkeepRule, TallyState, is_counted, counted_by, ends_with, noted}
+use Rattle.hub.specs.declared.ports.Seen.{Seen}
+use Rattle.hub.specs.Telling.{Tells, own_replies}
+use Rattle.hub.proofs.Tellings.{tells_none, replies_then}
 use Rattle.hub.specs.Answering.{asks, Replied, Answered, Serves, Asked}
 use Rattle.hub.specs.Connections.{IsStopped}
 
@@ -38,7 +41,7 @@ pub noted_none : (tally : TallyState) → tally ≡ noted tally []
 noted_none tally =
     let none : counted_by tally.rule [] ≡ 0 = counted_none tally.rule in
     let all : tally.count ≡ tally.count + counted_by tally.rule [] = omega (arith, none) in
-    ap (λ n. record { rule = tally.rule; count = n; more = tally.more; backlog = tally.backlog }) all
+    ap (λ n. record { rule = tally.rule; count = n; more = tally.more; idle = tally.idle; backlog = tally.backlog }) all
 
 abbrev pub serves_none : {S : Type 0} (m : PlainMachine S) (from : S → Type 0) (actor : ℕ) (held waiting : List ℕ) (tally : TallyState) →
     Serves m from from actor held held waiting waiting tally tally
@@ -69,7 +72,7 @@ pub noted_more : (tally mid next : TallyState) (xs ys : List (List ℕ)) → mid
 noted_more tally mid next xs ys p q =
     let sum : counted_by tally.rule (xs ++ ys) ≡ counted_by tally.rule xs + counted_by tally.rule ys = counted_append tally.rule xs ys in
     let all : (tally.count + counted_by tally.rule xs) + counted_by tally.rule ys ≡ tally.count + counted_by tally.rule (xs ++ ys) = omega (arith, sum) in
-    subst (λ t. next ≡ noted t ys) p q ∙ ap (λ n. record { rule = tally.rule; count = n; more = tally.more; backlog = tally.backlog }) all
+    subst (λ t. next ≡ noted t ys) p q ∙ ap (λ n. record { rule = tally.rule; count = n; more = tally.more; idle = tally.idle; backlog = tally.backlog }) all
 
 -- requests were answered, and then one more
 answered_body : {S : Type 0} (m : PlainMachine S) (mid to : S → Type 0) (actor : ℕ) (p q r : List ℕ) (k l n : TallyState) (s : S) (bodies : List (List ℕ))
@@ -137,8 +140,10 @@ fed_all m from to actor held bytes fed rest p q k l n is count few size a =
     subst (λ b. Serves m from to actor b rest p q k l) (is ∙ ap (λ z. held ++ z) (take_all n bytes (omega (arith, count, few, size)))) a
 
 -- no request was asked yet, one more, and all
-pub asked_none : {S : Type 0} (m : PlainMachine S) (from : S → Type 0) (full : List ℕ) (s : S) → from s → Asked m from [] full false s
-asked_none m from full s f = record { replies = []; state = s; answers = refl; stands = f; says = refl }
+pub asked_none : {S : Type 0} (m : PlainMachine S) (from : S → Type 0) (full idle : List ℕ) (a : Option (List Seen)) (s : S) → from s →
+    Asked m from [] full idle false false a a s
+asked_none m from full idle a s f =
+    record { replies = []; state = s; answers = refl; stands = f; says_full = refl; says_idle = refl; told = tells_none a }
 
 -- the last reply is the last of more
 ends_later : (full reply : List ℕ) (replies more : List (List ℕ)) → ends_with full (replies ++ reply ∷ more) ≡ ends_with full (reply ∷ more)
@@ -152,17 +157,20 @@ says_last : {S : Type 0} (m : PlainMachine S) (s t : S) (event : Event) (full : 
 says_last m s t event full before [] says answers is = absurd answers
 says_last m s t event full before (reply ∷ more) says answers is = is ∙ sym (ends_later full reply before more)
 
-pub asked_more : {S : Type 0} (m : PlainMachine S) (mid to : S → Type 0) (bodies : List (List ℕ)) (body full : List ℕ) (first says : Bool) (s : S) →
-    Asked m mid bodies full first s → ((t : S) → mid t → Asked m to (body ∷ []) full says t) → Asked m to (bodies ++ body ∷ []) full says s
-asked_more m mid to bodies body full first says s a one =
-    let b = one a.state a.stands in
+pub asked_more : {S : Type 0} (m : PlainMachine S) (mid to : S → Type 0) (bodies : List (List ℕ)) (body full idle : List ℕ)
+    (was_full was_idle is_full is_idle : Bool) (a b c : Option (List Seen)) (s : S) → Asked m mid bodies full idle was_full was_idle a b s →
+    ((t : S) → mid t → Asked m to (body ∷ []) full idle is_full is_idle b c t) → Asked m to (bodies ++ body ∷ []) full idle is_full is_idle a c s
+asked_more m mid to bodies body full idle was_full was_idle is_full is_idle a b c s first one =
+    let next = one first.state first.stands in
     record {
-      replies = a.replies ++ b.replies;
-      state = b.state;
-      answers = subst (λ es. Answers m s es (a.replies ++ b.replies) b.state) (sym (map-append (λ z. (0, z)) bodies (body ∷ [])))
-          (answers_append m s (asks 0 bodies) (asks 0 (body ∷ [])) a.replies b.replies a.state b.state a.answers b.answers);
-      stands = b.stands;
-      says = says_last m a.state b.state (0, body) full a.replies b.replies says b.answers b.says;
+      replies = first.replies ++ next.replies;
+      state = next.state;
+      answers = subst (λ es. Answers m s es (first.replies ++ next.replies) next.state) (sym (map-append (λ z. (0, z)) bodies (body ∷ [])))
+          (answers_append m s (asks 0 bodies) (asks 0 (body ∷ [])) first.replies next.replies first.state next.state first.answers next.answers);
+      stands = next.stands;
+      says_full = says_last m first.state next.state (0, body) full first.replies next.replies is_full next.answers next.says_full;
+      says_idle = says_last m first.state next.state (0, body) idle first.replies next.replies is_idle next.answers next.says_idle;
+      told = replies_then a b c first.replies next.replies first.told next.told;
     }
 
 -- the requests up to this place, and the next
@@ -181,23 +189,29 @@ all_of requests place past =
     take_all place (map (λ r. r.now) requests) (omega (arith, past, many))
 
 -- one request was answered, or memory was wanting
-pub asked_ok : {S : Type 0} (m : PlainMachine S) (to : S → Type 0) (body full : List ℕ) (says : Bool) (s : S) → to (m.step s (0, body)) →
-    says ≡ bytes_eq (m.reply s (0, body)) full → Asked m to (body ∷ []) full says s
-asked_ok m to body full says s stepped is = record {
+pub asked_ok : {S : Type 0} (m : PlainMachine S) (to : S → Type 0) (body full idle : List ℕ) (is_full is_idle : Bool) (a b : Option (List Seen)) (s : S) →
+    to (m.step s (0, body)) → is_full ≡ bytes_eq (m.reply s (0, body)) full → is_idle ≡ bytes_eq (m.reply s (0, body)) idle →
+    Tells a b (own_replies (m.reply s (0, body) ∷ [])) → Asked m to (body ∷ []) full idle is_full is_idle a b s
+asked_ok m to body full idle is_full is_idle a b s stepped says_full says_idle tells = record {
   replies = m.reply s (0, body) ∷ [];
   state = m.step s (0, body);
   answers = inl (refl, refl);
   stands = stepped;
-  says = is;
+  says_full = says_full;
+  says_idle = says_idle;
+  told = tells;
 }
 
-pub asked_err : {S : Type 0} (m : PlainMachine S) (to : S → Type 0) (body full : List ℕ) (says : Bool) (s : S) → (m.is_sure (0, body) ≡ true → false ≡ true) →
-    to s → says ≡ bytes_eq no_memory full → Asked m to (body ∷ []) full says s
-asked_err m to body full says s unsure same is = record {
+pub asked_err : {S : Type 0} (m : PlainMachine S) (to : S → Type 0) (body full idle : List ℕ) (is_full is_idle : Bool) (a b : Option (List Seen)) (s : S) →
+    (m.is_sure (0, body) ≡ true → false ≡ true) → to s → is_full ≡ bytes_eq no_memory full → is_idle ≡ bytes_eq no_memory idle →
+    Tells a b (own_replies (no_memory ∷ [])) → Asked m to (body ∷ []) full idle is_full is_idle a b s
+asked_err m to body full idle is_full is_idle a b s unsure same says_full says_idle tells = record {
   replies = no_memory ∷ [];
   state = s;
   answers =
       inr (refl, false_from_ne_true (m.is_sure (0, body)) (λ e. let p : false ≡ true = unsure e in absurd (cc)), refl);
   stands = same;
-  says = is;
+  says_full = says_full;
+  says_idle = says_idle;
+  told = tells;
 }

@@ -22,12 +22,8 @@ use Rattle.hub.specs.Turns.{Turn, Rested, Opened, Missed, TurnedAway, Received, 
 use Rattle.hub.specs.Turns.{WaitFew, WaitSoMany}
 use Rattle.hub.specs.Runs.{close, Ran, AnswersTo}
 use Rattle.hub.specs.Keeping.{Fits, Keeps, Settles, AreBefore, WentOn, IsToldBehind, GoesOn, Waits}
+use Rattle.hub.proofs.Tellings.{tells_none}
 use Rattle.hub.proofs.Holding.{waits_is, held_is, each_talk, none_of, fresh_connection, connection_more, fits_there}
-
--- nothing more was told
-pub tells_none : (o : Option (List Seen)) → Tells o o []
-tells_none None = tt
-tells_none (Some seen) = sym (append-nil seen)
 
 -- what was answered as the machine that is seen through a connection's door is answered so to its talk
 answers_to : {S : Type 0} (w : PlainSettling S) (o : Option Talk) (t : Talk) (l : ConnectionState) (events : List Event) (replies : List (List ℕ)) (u v : S) →

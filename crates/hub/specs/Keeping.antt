@@ -17,7 +17,7 @@ use Rattle.hub.specs.Telling.{Tells}
 use Rattle.hub.specs.Talks.{Talk}
 use Rattle.hub.specs.Upkeeps.{UpkeepRule, TallyState, noted}
 use Rattle.hub.specs.Turns.{Turn, Received, Sent, KeptUp, Settled, PeerDid, talk, turns_of, calls_of, calls_in}
-use Rattle.hub.specs.Timing.{unpaid, has_more, has_backlog, AreTimely}
+use Rattle.hub.specs.Timing.{unpaid, has_more, has_idle, has_backlog, AreTimely}
 use Rattle.hub.specs.Runs.{Ran, AreServed, count_of}
 
 -- the connection of a talk has its door, and holds what came and wasn't asked yet, and what waits
@@ -58,7 +58,13 @@ IsNoted tally next _ = next ≡ tally
 abbrev pub IsTally : Option UpkeepRule → TallyState → List Turn → Type 0
 IsTally None tally turns = tally.rule ≡ None
 IsTally (Some rule) tally turns =
-    tally ≡ record { rule = Some rule; count = unpaid rule turns; more = has_more rule.full turns; backlog = has_backlog rule.full turns }
+    tally ≡ record {
+      rule = Some rule;
+      count = unpaid rule turns;
+      more = has_more rule.full turns;
+      idle = has_idle rule.idle turns;
+      backlog = has_backlog rule.full turns;
+    }
 
 -- from s nothing was owed, or what was owed was settled; and the value stands for the state that was reached
 pub record Settles {S : Type 0} (w : PlainSettling S) (to : S → Type 0) (s : S) : Type 0 where

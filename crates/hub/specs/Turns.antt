@@ -7,6 +7,7 @@ use Rattle.hub.specs.declared.ports.Ready.TheVariants.{Accept, Read, Write, Clos
 use Rattle.hub.specs.declared.ports.Seen.{Seen}
 use Rattle.hub.specs.declared.ports.Seen.TheVariants.{Offered, Accepted, Declined, ReadFrom, WroteTo, Closed}
 use Rattle.hub.specs.declared.ports.Scope.{Scope}
+use Rattle.hub.specs.Telling.{own_replies}
 use Rattle.hub.specs.Talks.{Talk, no_talk, more_talk, held, waits}
 use Rattle.hub.specs.Peers.{offer_of, moved, carried_out, MayTell, HasNothingFor}
 use Rattle.site_peers.specs.declared.peers.Peer.{Peer}
@@ -29,7 +30,7 @@ pub data Turn : Type 0 where
   Settled : Turn
   PeerDid : (peer offered : ℕ) → PeerTurn → Turn
 
--- what the edge sees of a turn: its offer, and the call that was made; nothing of what the hub asks itself or settles
+-- what the edge sees of a turn: its offer, and the call that was made; of what the hub asks itself the replies; nothing of what it settles
 abbrev pub calls_of : Turn → List Seen
 calls_of (Rested offer) = Offered offer ∷ []
 calls_of (Opened slot door) = Offered Accept ∷ Accepted slot (Some door) ∷ []
@@ -38,7 +39,7 @@ calls_of TurnedAway = Offered Accept ∷ Declined ∷ []
 calls_of (Received slot room came bodies replies) = Offered (Read slot) ∷ ReadFrom slot room came ∷ []
 calls_of (Sent slot offered wrote bodies replies) = Offered (Write slot) ∷ WroteTo slot offered wrote ∷ []
 calls_of (Ended slot) = Offered (Close slot) ∷ Closed slot ∷ []
-calls_of (KeptUp bodies replies) = []
+calls_of (KeptUp bodies replies) = own_replies replies
 calls_of Settled = []
 calls_of (PeerDid peer offered t) = Offered (OfPeer peer t.now (offer_of t.news)) ∷ moved peer offered t.news ++ carried_out peer t.deed
 

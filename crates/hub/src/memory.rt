@@ -239,6 +239,16 @@ impl Ports for MemoryPorts {
         count
     }
 
+    #[tactic(auto, using(crate::proofs::Leading::tells_lost))]
+    fn note_reply(&mut self, reply: &[u8]) {
+        match Vec::from_slice(self.alloc, reply) {
+            Ok(reply) => self.note(Seen::NotedReply {
+                reply: ByteList::from_vec(reply),
+            }),
+            Err(_) => self.lose(),
+        }
+    }
+
     fn tell_failure(&mut self, peer: usize, why: Failure) {
         self.note(Seen::ToldFailure { peer, why });
     }

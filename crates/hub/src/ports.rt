@@ -100,6 +100,10 @@ pub enum Seen {
         offered: usize,
         bytes: ByteList,
     },
+    /// It was told the reply to a request that the hub asked itself.
+    NotedReply {
+        reply: ByteList,
+    },
     /// It was to tell why the exchange with the peer failed.
     ToldFailure {
         peer: usize,
@@ -161,6 +165,10 @@ pub trait Ports {
     fn write_peer(&mut self, peer: usize, bytes: &[u8]) -> usize
         ensures bound { result ≤ length bytes.now }
         ensures told { Tells (seen self.old) (seen self.new) (Seen.WroteToPeer peer (length bytes.now) (take result bytes.now) ∷ []) };
+
+    /// Is told the reply to a request that the hub asked itself, which goes to no connection; so it may tell somebody what it says.
+    fn note_reply(&mut self, reply: &[u8])
+        ensures told { Tells (seen self.old) (seen self.new) (Seen.NotedReply reply.now ∷ []) };
 
     /// Tells somebody why the exchange with the peer failed. The connection was closed before.
     fn tell_failure(&mut self, peer: usize, why: Failure)

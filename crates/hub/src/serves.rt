@@ -59,7 +59,7 @@ pub fn serve<M: Settling, P: Ports>(
     upkeep: Option<Upkeep<'_>>,
     scope: Scope,
 ) -> Result<End, NoMemory>
-    requires often { IfSome (option_map rule_of upkeep) (λ rule. 0 < rule.after) }
+    requires often { IfSome (option_map rule_of upkeep) (λ rule. (0 < rule.after) × (0 < rule.later)) }
     requires most { scope.connections ≤ slots }
     requires sure { (n : ℕ) → n < slots → M.plain.is_sure (n + 1, close) ≡ true }
     ensures served { IfOk result (λ end. (s : M.Plain) → M.stands machine.old s
@@ -117,8 +117,8 @@ fn serve_connections<M: Settling, P: Ports>(
         turns += 1;
         match tally.due() {
             Some(upkeep) => {
-                let more = keep_up(machine, upkeep, reply);
-                tally.pay(upkeep.after, more);
+                let last = keep_up(machine, upkeep, ports, reply);
+                tally.pay(upkeep.pays, last);
             }
             None => match turn(
                 alloc,

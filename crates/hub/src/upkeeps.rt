@@ -1,40 +1,64 @@
 //! Upkeep of a machine: requests that a hub asks itself, as often as enough was answered.
 
 ghost use Rattle.std.specs.Prelude.{◌≡◌, ◌<◌, ◌≤◌, ◌+◌, [], ◌∷◌, false, bytes_eq, nat_le, map, option_map, IfNone};
-ghost use Rattle.hub.specs.Upkeeps.{rule_of, first_tally, is_counted, noted, passed, paid, due_by};
+ghost use Rattle.hub.specs.Upkeeps.{rule_of, wanted, first_tally, is_counted, noted, passed, paid, due_by};
+ghost use Rattle.hub.specs.declared.ports.Seen.TheVariants.{NotedReply};
+ghost use Rattle.hub.specs.Telling.{Tells};
 ghost use Rattle.hub.specs.Answering.{Asked};
 
+use crate::ports::Ports;
 use rest_machine::Settling;
 use std::marker::Model;
 use tardis_base::{NO_MEMORY, NoMemory, ReplyBuf};
 
 /// Requests that a hub asks its machine itself, as actor 0, in this order. The replies go to nobody.
 ///
-/// They are asked once for each `after` replies that were given to connections, or to what was asked for a peer, and begin with
-/// one of `codes`; the reply that memory was wanting never counts. Where one turn gave many, there are as many upkeeps before the
-/// edge is asked again; what remains stays counted.
+/// They are asked as soon as `after` replies were given to connections, or to what was asked for a peer, that begin with one of
+/// `codes`; the reply that memory was wanting never counts. An upkeep pays off `pays` of them, or all where they are fewer. Where one
+/// turn gave so many that an upkeep is due still, the next one is made before the edge is asked again; what remains stays counted. So
+/// with `pays` as `after` there is one for each so many, and with a `pays` that is never reached one at most between two turns.
 ///
 /// Where the last reply of an upkeep is `full`, there may be more to do: then they are asked again after the next turn of the
 /// edge, so that connections are served in between, and so on until that reply is another one. An upkeep that comes so pays
-/// off `after` of what was counted as well, or all where it is less.
+/// off as much.
+///
+/// Where the last reply is `idle`, nothing could be done, which may have cost much: then the next upkeep is made only as soon as
+/// `later` replies were given, in place of `after`. Meanwhile what was counted stays counted. Where `idle` and `full` are the same
+/// bytes, that reply says both: the requests are asked again after the next turn, as where there may be more to do.
 #[derive(Clone, Copy)]
 pub struct Upkeep<'a> {
     /// The first bytes of the replies that count.
     pub codes: &'a [u8],
     /// From 1 on.
     pub after: u32,
+    pub pays: u32,
     pub requests: &'a [&'a [u8]],
     /// The reply to the last request that says that there may be more to do.
     pub full: &'a [u8],
+    /// The reply to the last request that says that nothing could be done.
+    pub idle: &'a [u8],
+    /// From 1 on.
+    pub later: u32,
 }
 
-/// How far an upkeep is due: how many replies that count aren't paid off, whether the newest one said that there may be more to
-/// do, and whether the edge had a turn since. It is seen as these, with the rule of the upkeep.
+/// Which reply the last one of an upkeep is.
+#[derive(Clone, Copy)]
+pub(crate) struct LastReply {
+    /// It says that there may be more to do.
+    pub is_full: bool,
+    /// It says that nothing could be done.
+    pub is_idle: bool,
+}
+
+/// How far an upkeep is due: how many replies that count aren't paid off; whether the newest one said that there may be more to
+/// do, and whether it said that nothing could be done; and whether the edge had a turn since one that may have left more. It is
+/// seen as these, with the rule of the upkeep.
 #[derive(Drop)]
 pub(crate) struct Tally<'a> {
     upkeep: Option<Upkeep<'a>>,
     count: u64,
     more: bool,
+    idle: bool,
     backlog: bool,
 }
 
@@ -44,7 +68,7 @@ impl<'a> Model for Tally<'a> {
 
     ghost Value = { TallyState };
 
-    ghost view = { λ t. record { rule = option_map rule_of t.upkeep; count = t.count; more = t.more; backlog = t.backlog } };
+    ghost view = { λ t. record { rule = option_map rule_of t.upkeep; count = t.count; more = t.more; idle = t.idle; backlog = t.backlog } };
 
     ghost invariant = { λ t. IfNone t.upkeep (t.count ≡ 0) };
 }
@@ -58,6 +82,7 @@ impl<'a> Tally<'a> {
             upkeep,
             count: 0,
             more: false,
+            idle: false,
             backlog: false,
         }
     }
@@ -81,12 +106,13 @@ impl<'a> Tally<'a> {
         self.backlog = self.more;
     }
 
-    /// Pays off so many replies by an upkeep, which said whether there may be more to do.
-    pub(crate) fn pay(&mut self, after: u32, more: bool)
-        ensures { self.new ≡ paid self.old after more }
+    /// Pays off so many replies by an upkeep, the last reply of which was this one.
+    pub(crate) fn pay(&mut self, pays: u32, last: LastReply)
+        ensures { self.new ≡ paid self.old pays last.is_full last.is_idle }
     {
-        self.count = self.count.saturating_sub(u64::from(after));
-        self.more = more;
+        self.count = self.count.saturating_sub(u64::from(pays));
+        self.more = last.is_full;
+        self.idle = last.is_idle;
         self.backlog = false;
     }
 
@@ -97,7 +123,7 @@ impl<'a> Tally<'a> {
     {
         match self.upkeep {
             Some(upkeep) => {
-                if is_owed(self.count, upkeep.after) || self.backlog {
+                if is_owed(self.count, wanted(upkeep, self.idle)) || self.backlog {
                     Some(upkeep)
                 } else {
                     None
@@ -118,46 +144,80 @@ fn counts(codes: &[u8], reply: &[u8]) -> bool
     }
 }
 
-/// Whether so many replies are to be paid off.
-fn is_owed(count: u64, after: u32) -> bool
-    ensures owed { result ≡ nat_le after count }
+/// How many replies make an upkeep due, by whether the newest one could do nothing.
+fn wanted(upkeep: Upkeep<'_>, idle: bool) -> u32
+    ensures { result ≡ wanted (rule_of upkeep.entry) idle }
+{
+    if idle { upkeep.later } else { upkeep.after }
+}
+
+/// Whether as many replies as are wanted aren't paid off.
+fn is_owed(count: u64, wanted: u32) -> bool
+    ensures owed { result ≡ nat_le wanted count }
     ensures few { result ≡ false → count ≤ 4294967295 }
 {
-    u64::from(after) <= count
+    u64::from(wanted) <= count
 }
 
-/// Asks the requests of the upkeep as actor 0, and leaves the replies. Answers whether the last says that there may be more to
-/// do.
-pub(crate) fn keep_up<M: Settling>(
+/// Asks the requests of the upkeep as actor 0, and tells the edge the replies. Answers which one the last is.
+pub(crate) fn keep_up<M: Settling, P: Ports>(
     machine: &mut M,
     upkeep: Upkeep<'_>,
+    ports: &mut P,
     reply: &mut ReplyBuf,
-) -> bool
+) -> LastReply
     ensures asked { (s : M.Plain) → M.stands machine.old s
-        → Asked M.plain (M.stands machine.new) (map (λ r. r.now) upkeep.entry.requests.now) upkeep.entry.full.now result s }
+        → Asked M.plain (M.stands machine.new) (map (λ r. r.now) upkeep.entry.requests.now) upkeep.entry.full.now upkeep.entry.idle.now
+        result.is_full result.is_idle (P.seen ports.old) (P.seen ports.new) s }
     ensures opening { M.opening machine.new ≡ M.opening machine.old }
 {
-    let mut more = false;
+    let mut last = LastReply {
+        is_full: false,
+        is_idle: false,
+    };
     for request in upkeep.requests {
-        more = ask(machine, request, upkeep.full, reply);
+        last = ask(machine, request, upkeep.full, upkeep.idle, ports, reply);
     }
-    more
+    last
 }
 
-/// Asks one request as actor 0, and leaves the reply. Answers whether it is this one.
-fn ask<M: Settling>(machine: &mut M, request: &[u8], full: &[u8], reply: &mut ReplyBuf) -> bool
-    ensures asked { (s : M.Plain) → M.stands machine.old s → Asked M.plain (M.stands machine.new) (request.now ∷ []) full.now result s }
+/// Asks one request as actor 0, and tells the edge the reply. Answers which one it is.
+fn ask<M: Settling, P: Ports>(
+    machine: &mut M,
+    request: &[u8],
+    full: &[u8],
+    idle: &[u8],
+    ports: &mut P,
+    reply: &mut ReplyBuf,
+) -> LastReply
+    ensures asked { (s : M.Plain) → M.stands machine.old s
+        → Asked M.plain (M.stands machine.new) (request.now ∷ []) full.now idle.now result.is_full result.is_idle
+        (P.seen ports.old) (P.seen ports.new) s }
     ensures opening { M.opening machine.new ≡ M.opening machine.old }
 {
     match machine.act(0, request, reply) {
-        Ok(()) => is_same(reply.bytes(), full),
-        Err(NoMemory) => is_same(&NO_MEMORY, full),
+        Ok(()) => told(ports, reply.bytes(), full, idle),
+        Err(NoMemory) => told(ports, &NO_MEMORY, full, idle),
     }
 }
 
-/// Whether a reply is this one.
-fn is_same(reply: &[u8], full: &[u8]) -> bool
-    ensures { result ≡ bytes_eq reply.now full.now }
+/// Tells the edge the reply, and answers which of these it is.
+fn told<P: Ports>(ports: &mut P, reply: &[u8], full: &[u8], idle: &[u8]) -> LastReply
+    ensures full { result.is_full ≡ bytes_eq reply.now full.now }
+    ensures idle { result.is_idle ≡ bytes_eq reply.now idle.now }
+    ensures told { Tells (P.seen ports.old) (P.seen ports.new) (NotedReply reply.now ∷ []) }
 {
-    reply == full
+    ports.note_reply(reply);
+    which(reply, full, idle)
+}
+
+/// Which of these the reply is.
+fn which(reply: &[u8], full: &[u8], idle: &[u8]) -> LastReply
+    ensures full { result.is_full ≡ bytes_eq reply.now full.now }
+    ensures idle { result.is_idle ≡ bytes_eq reply.now idle.now }
+{
+    LastReply {
+        is_full: reply == full,
+        is_idle: reply == idle,
+    }
 }

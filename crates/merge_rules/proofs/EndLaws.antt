@@ -17,7 +17,8 @@ use Rattle.plain_site.specs.Commits.{committed, commit_below}
 use Rattle.session_core.specs.Joins.{begin_refusal}
 use Rattle.rule_list.specs.declared.rules.PrefixRule.{PrefixRule}
 use Rattle.merge_rules.specs.declared.steps.AutoEnd.TheVariants.{Single, Unmerged, Wide, Merged}
-use Rattle.merge_rules.specs.Auto.{AutoAnswer, value_of, unmerged, values, ended_as, merge_values, merge_both, unless_refused, auto_over}
+use Rattle.join_rules.specs.Valued.{value_of, unmerged, values}
+use Rattle.merge_rules.specs.Auto.{AutoAnswer, ended_as, merge_values, merge_both, unless_refused, auto_over}
 use Rattle.merge_rules.specs.Laws.{SingleMeansOneLeaf, OnlyMergesChange}
 
 -- it isn't Single, and unless it is Merged the site is as it was

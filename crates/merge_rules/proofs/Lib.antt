@@ -1,12 +1,3 @@
--- Lemmas on merge rules.
-mod Partings
-mod UnionLaws
-mod Joins
-mod ReadLaws
-mod Exchanges
-mod ValueLaws
-mod SettlingLaws
-mod LeafLaws
-mod WrittenLaws
+-- Lemmas on auto steps.
 mod StepLaws
 mod EndLaws

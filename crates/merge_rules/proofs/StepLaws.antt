@@ -32,12 +32,15 @@ use Rattle.session_core.specs.Machine.{SiteStands}
 use Rattle.rule_list.specs.declared.rules.PrefixRule.{PrefixRule}
 use Rattle.merge_rules.specs.declared.steps.AutoEnd.{AutoEnd}
 use Rattle.merge_rules.specs.declared.steps.AutoEnd.TheVariants.{Single, Refused, Wide, Unmerged}
-use Rattle.merge_rules.specs.declared.settling.Settled.{Settled}
-use Rattle.merge_rules.specs.declared.settling.Settled.TheVariants.{Wide as TooWide, Unmerged as WithoutValue, Values}
-use Rattle.merge_rules.specs.Auto.{AutoAnswer, value_of, values, ended_as, merge_values, merge_both, unless_refused, auto_over, auto_step}
-use Rattle.merge_rules.specs.Steps.{Ends, AreFirst, FirstTwo, MayBeSettled, SettledAs, SettlesAs}
-use Rattle.merge_rules.proofs.LeafLaws.{TwoLeaves, leaves-in-order, leaves-exchanged, leaf-keys, two-known, two-apart, two-free, two-are-parents, fork-is_kept}
-use Rattle.merge_rules.proofs.WrittenLaws.{valued-keys, none-is_open, are-writes}
+use Rattle.join_rules.specs.declared.settling.Settled.{Settled}
+use Rattle.join_rules.specs.declared.settling.Settled.TheVariants.{Wide as TooWide, Unmerged as WithoutValue, Values}
+use Rattle.join_rules.specs.Valued.{value_of, values}
+use Rattle.merge_rules.specs.Auto.{AutoAnswer, ended_as, merge_values, merge_both, unless_refused, auto_over, auto_step}
+use Rattle.join_rules.specs.Settlings.{MayBeSettled, SettledAs, SettlesAs}
+use Rattle.merge_rules.specs.Steps.{Ends, AreFirst, FirstTwo}
+use Rattle.join_rules.specs.Searches.{TwoLeaves}
+use Rattle.join_rules.proofs.LeafLaws.{leaves-in-order, leaves-exchanged, leaf-keys, two-known, two-apart, two-free, two-are-parents, fork-is_kept}
+use Rattle.join_rules.proofs.WrittenLaws.{valued-keys, none-is_open, are-writes}
 
 -- ===== The two leaves
 

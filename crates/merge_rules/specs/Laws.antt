@@ -1,17 +1,11 @@
--- Laws of the values that rules give, and of auto steps.
+-- Laws of auto steps.
 use Rattle.std.specs.Prelude.{◌≡◌, ◌≤◌, ℕ, List, length}
 use Rattle.tardis_base.specs.declared.ids.StateId.{StateId}
 use Rattle.plain_dag.specs.Forks.{leaves}
 use Rattle.plain_site.specs.Site.{Site}
-use Rattle.rule_list.specs.declared.rules.Rule.{Rule}
 use Rattle.rule_list.specs.declared.rules.PrefixRule.{PrefixRule}
 use Rattle.merge_rules.specs.declared.steps.AutoEnd.TheVariants.{Single, Merged}
 use Rattle.merge_rules.specs.Auto.{auto_step}
-use Rattle.merge_rules.specs.Values.{Base, Side, merged}
-
--- it doesn't matter which side comes first
-abbrev pub SidesMayBeExchanged : Type 0
-SidesMayBeExchanged = (rule : Rule) (base : Base) (a b : Side) → (a.0 ≡ b.0 → ⊥) → merged rule base a b ≡ merged rule base b a
 
 -- what ends as Single found no two leaves
 abbrev pub SingleMeansOneLeaf : Type 0

@@ -1,9 +1,4 @@
--- Merge rules: what value each gives.
-pub mod Parts
-pub mod Values
-pub mod Sides
-pub mod Numbers
-pub mod Joining
+-- The auto step: two leaves are merged by rules.
 pub mod Laws
 pub mod Auto
 pub mod Steps

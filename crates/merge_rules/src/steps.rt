@@ -10,7 +10,7 @@ ghost use Rattle.session_core.specs.Machine.{SiteStands, opened_with};
 ghost use Rattle.merge_rules.specs.Auto.{auto_step, end_of};
 ghost use Rattle.merge_rules.specs.Steps.{Ends, FirstTwo, MayJoin, JoinsAs};
 
-use crate::settling::{Settled, settle};
+use join_rules::{Settled, settle};
 use rule_list::RuleList;
 use session_core::SiteCore;
 use state_dag::StateDag;

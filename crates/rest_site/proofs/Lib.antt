@@ -1,7 +1,9 @@
 -- How what lasts is seen, put behind a log, and taken back.
 pub mod Counts
+pub mod Joined
 pub mod Newest
 pub mod Putting
 pub mod Raised
+pub mod Ruled
 pub mod Seen
 pub mod Taken

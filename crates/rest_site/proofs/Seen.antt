@@ -1,8 +1,8 @@
 -- Each event leads to a site that follows, and what lasts of it is seen between the two.
-use Rattle.std.proofs.Common.{◌≡◌, Option, Some, None, IsTrue, IsFalse, refl, sym, ap, subst, ◌∙◌}
+use Rattle.std.proofs.Common.{◌≡◌, ℕ, ◌==◌, List, [], ◌∷◌, Option, Some, None, IsTrue, IsFalse, inl, inr, refl, sym, ap, subst, ◌∙◌, arith, eqb-true}
 use Rattle.std.specs.Prelude.{option_to_list, option_map, OnOk, OnErr, Result, Ok, Err}
 use Rattle.std.specs.Option.{option_and_then}
-use Rattle.std.proofs.lemmas.Bool.{cond-false}
+use Rattle.std.proofs.lemmas.Bool.{cond-true, cond-false, or_cases, ne_eqb}
 use Rattle.std.proofs.lemmas.Option.{none-some}
 use Rattle.tardis_base.specs.declared.faults.NoMemory.{NoMemory}
 use Rattle.tardis_base.specs.declared.requests.Request.{Request}
@@ -19,8 +19,9 @@ use Rattle.plain_site.specs.Rest.{Lasting, at_rest, replay, lasting_of, lasting_
 use Rattle.plain_site.specs.RestSpellings.{is_lasting, all_spelling}
 use Rattle.site_lives.specs.Lives.{is_of_lives}
 use Rattle.site_lives.specs.Acquainted.{Acquainted, about_lives}
-use Rattle.site_lives.specs.Things.{LastingThing, OfSite, OfLives, all_spellings}
-use Rattle.site_lives.specs.Bytes.{lasting_bytes}
+use Rattle.site_lives.specs.Things.{LastingThing, OfSite, OfLives, thing_of_event, all_spellings}
+use Rattle.join_rules.specs.Joins.{is_join, lasting_of_join}
+use Rattle.join_rules.specs.Laws.{behind_join, WhatLastsOfJoinsIsSeen, JoinsAddWhatLasts, WhatLastsOfJoinsFits}
 use Rattle.rest_laws.proofs.Adds.{requests-add-what-lasts}
 use Rattle.rest_laws.proofs.Seen.{nothing-between, what-lasts-is-seen}
 use Rattle.rest_laws.proofs.Valid.{what-lasts-is-spelled}
@@ -28,6 +29,7 @@ use Rattle.session_core.specs.Core.{Core}
 use Rattle.session_core.specs.Stands.{StandsForSite}
 use Rattle.session_core.specs.Machine.{SiteStands}
 use Rattle.rest_site.specs.Notes.{Follows}
+use Rattle.rest_site.specs.Ruled.{ruled_bytes}
 
 -- the site follows by this, if by anything
 pub record FollowsBy (before behind : Site) (o : Option Lasting) : Type 0 where
@@ -57,30 +59,73 @@ event-follows read site (n, bytes) small sound = go (request_of bytes) refl
         follows-by site (step site n q).0 (lasting_of q (step site n q)) sound (what-lasts-is-seen site n q valid sound)
         (requests-add-what-lasts site n q) (λ l e. what-lasts-is-spelled site n q l small valid sound e)
 
+-- so does a request to join leaves
+pub join-follows : WhatLastsOfJoinsIsSeen → JoinsAddWhatLasts → WhatLastsOfJoinsFits → (site : Site) (bytes : List ℕ) → IsSound site →
+    FollowsBy site (behind_join site bytes) (lasting_of_join site bytes)
+join-follows seen adds fits site bytes sound =
+    follows-by site (behind_join site bytes) (lasting_of_join site bytes) sound (seen site bytes) (adds site bytes) (λ l e. (fits site bytes l e).0)
+
 -- whether it was done or not, the site in memory stands for a sound one
+pub stands-after : (old new : Core) (next : Site → Site) (result : Result (Unit {0}) NoMemory) → StandsForSite old →
+    OnOk result ((s : Site) → SiteStands old s → SiteStands new (next s)) → OnErr result ((s : Site) → SiteStands old s → SiteStands new s) →
+    StandsForSite new
+stands-after old new next (Ok done) before step same =
+    let now = step before.site (before.stands, before.sound) in
+    record { site = next before.site; stands = now.0; sound = now.1 }
+stands-after old new next (Err fault) before step same =
+    let now = same before.site (before.stands, before.sound) in
+    record { site = before.site; stands = now.0; sound = now.1 }
+
 pub stands-behind : (old new : Core) (event : Event) (result : Result (Unit {0}) NoMemory) → StandsForSite old →
     OnOk result ((s : Site) → SiteStands old s → SiteStands new (site_machine.step s event)) → OnErr result ((s : Site) → SiteStands old s → SiteStands new s) →
     StandsForSite new
-stands-behind old new event (Ok done) before step same =
-    let now = step before.site (before.stands, before.sound) in
-    record { site = site_machine.step before.site event; stands = now.0; sound = now.1 }
-stands-behind old new event (Err fault) before step same =
-    let now = same before.site (before.stands, before.sound) in
-    record { site = before.site; stands = now.0; sound = now.1 }
+stands-behind old new event result = stands-after old new (λ s. site_machine.step s event) result
 
 -- what is said where a call answers Ok, said another way
 pub on-ok : {T E : Type 0} (r : Result T E) (P Q : Type 0) → OnOk r P → (P → Q) → OnOk r Q
 on-ok (Ok t) P Q p f = f p
 on-ok (Err e) P Q p f = p
 
--- what lasts of a request that isn't about lives
-pub site-bytes : (a : Acquainted) (event : Event) → IsFalse (is_of_lives event.1) →
-    all_spelling (option_to_list (lasting_of_event a.site event)) ≡ lasting_bytes a event
-site-bytes a event f =
-    same (lasting_of_event a.site event)
-    ∙ ap (λ (o : Option LastingThing). all_spellings (option_to_list o))
-    (sym (cond-false (is_of_lives event.1) (option_map OfLives (about_lives a event.1).1) (option_map OfSite (lasting_of_event a.site event)) f))
-  where
-    same : (o : Option Lasting) → all_spelling (option_to_list o) ≡ all_spellings (option_to_list (option_map OfSite o))
-    same None = refl
-    same (Some l) = refl
+-- no request is both
+pub lives-dont-join : (bytes : List ℕ) → IsTrue (is_of_lives bytes) → IsFalse (is_join bytes)
+lives-dont-join [] t = refl
+lives-dont-join (code ∷ fields) t = elim (or_cases (code == 72) (code == 73) t) [
+  | inl meet ↦ ne_eqb code 74 (λ e. let is = eqb-true code 72 meet in omega (arith, is, e))
+  | inr begin ↦ ne_eqb code 74 (λ e. let is = eqb-true code 73 begin in omega (arith, is, e))
+]
+
+-- what lasts of the site, as a thing
+same-bytes : (o : Option Lasting) → all_spelling (option_to_list o) ≡ all_spellings (option_to_list (option_map OfSite o))
+same-bytes None = refl
+same-bytes (Some l) = refl
+
+module _ (a : Acquainted) (event : Event) where
+  abbrev of-join : Option LastingThing
+  of-join = option_map OfSite (lasting_of_join a.site event.1)
+
+  -- what lasts of a request to join leaves
+  pub join-bytes : IsTrue (is_join event.1) → all_spelling (option_to_list (lasting_of_join a.site event.1)) ≡ ruled_bytes a event
+  join-bytes t =
+      same-bytes (lasting_of_join a.site event.1)
+      ∙ ap (λ (o : Option LastingThing). all_spellings (option_to_list o)) (sym (cond-true (is_join event.1) of-join (thing_of_event a event) t))
+
+  -- of all others
+  pub other-bytes : IsFalse (is_join event.1) → all_spellings (option_to_list (thing_of_event a event)) ≡ ruled_bytes a event
+  other-bytes f =
+      ap (λ (o : Option LastingThing). all_spellings (option_to_list o)) (sym (cond-false (is_join event.1) of-join (thing_of_event a event) f))
+
+  -- of one that is neither to join leaves nor about lives
+  pub site-bytes : IsFalse (is_of_lives event.1) → IsFalse (is_join event.1) →
+      all_spelling (option_to_list (lasting_of_event a.site event)) ≡ ruled_bytes a event
+  site-bytes f g =
+      same-bytes (lasting_of_event a.site event)
+      ∙ (ap (λ (o : Option LastingThing). all_spellings (option_to_list o))
+      (sym (cond-false (is_of_lives event.1) (option_map OfLives (about_lives a event.1).1) (option_map OfSite (lasting_of_event a.site event)) f))
+      ∙ other-bytes g)
+
+  -- of one about lives
+  pub lives-bytes : IsTrue (is_of_lives event.1) → all_spellings (option_to_list (option_map OfLives (about_lives a event.1).1)) ≡ ruled_bytes a event
+  lives-bytes t =
+      ap (λ (o : Option LastingThing). all_spellings (option_to_list o))
+      (sym (cond-true (is_of_lives event.1) (option_map OfLives (about_lives a event.1).1) (option_map OfSite (lasting_of_event a.site event)) t))
+      ∙ other-bytes (lives-dont-join event.1 t)

@@ -2,3 +2,5 @@
 pub mod Stands
 pub mod Notes
 pub mod Takings
+pub mod Joinings
+pub mod Ruled

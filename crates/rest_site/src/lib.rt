@@ -1,7 +1,7 @@
-//! A site with the lives that it knows, which can end and start again: it puts what lasts of each request behind a log, and takes
-//! back what stands in one.
+//! A site with the lives that it knows, which joins leaves by rules where it is asked to, and can end and start again: it puts what
+//! lasts of each request behind a log, and takes back what stands in one.
 //!
-//! The rules, and how what lasts is spelled, are stated in `docs/MODEL.md`, 'What lasts' and 'Lives'.
+//! The rules, and how what lasts is spelled, are stated in `docs/MODEL.md`, 'What lasts', 'Lives' and 'Joins by rules'.
 #![tactic(auto)]
 
 ghost use Rattle.std.specs.Prelude.{◌≡◌, ◌≤◌, length, IsTrue, IfOk};
@@ -12,6 +12,7 @@ ghost use Rattle.site_lives.specs.Lives.{is_of_lives, with_new};
 ghost use Rattle.site_lives.specs.Acquainted.{Acquainted, unacquainted, about_lives};
 ghost use Rattle.rest_site.specs.Stands.{AcquaintedStands, opened_alone};
 
+mod joins;
 mod machines;
 mod notes;
 mod puts;

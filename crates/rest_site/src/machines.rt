@@ -1,20 +1,23 @@
 //! The site as a machine, and as one that starts again from what lasted of its requests.
 
 use crate::RestSite;
+use crate::joins::join;
 use crate::puts::put_life;
-use crate::serving::serve;
+use crate::serving::{serve, serve_join};
 use crate::takes::take_all;
+use join_rules::is_join;
 use rest_machine::Resting;
 use site_lives::is_of_lives;
 use tardis_base::{Machine, NoMemory, ReplyBuf};
 
 impl Machine for RestSite {
-    ghost use Rattle.site_lives.specs.Acquainted.{Acquainted, acquainted_machine};
+    ghost use Rattle.site_lives.specs.Acquainted.{Acquainted};
     ghost use Rattle.rest_site.specs.Stands.{AcquaintedStands, opened_alone};
+    ghost use Rattle.rest_site.specs.Ruled.{ruled_machine};
 
     ghost Plain = { Acquainted };
 
-    ghost plain = { acquainted_machine };
+    ghost plain = { ruled_machine };
 
     ghost stands = { AcquaintedStands };
 
@@ -24,6 +27,8 @@ impl Machine for RestSite {
         if is_of_lives(request) {
             let _ = self.meet(request, out);
             Ok(())
+        } else if is_join(request) {
+            join(&mut self.core, self.alloc, request, out)
         } else {
             self.core.act(actor, request, out)
         }
@@ -31,19 +36,20 @@ impl Machine for RestSite {
 }
 
 impl Resting for RestSite {
-    ghost use Rattle.site_lives.specs.Acquainted.{Acquainted, acquainted_machine};
+    ghost use Rattle.site_lives.specs.Acquainted.{Acquainted};
     ghost use Rattle.rest_site.specs.Stands.{AcquaintedStands, opened_alone};
-    ghost use Rattle.site_lives.specs.Bytes.{lasting_bytes, TakesBack};
+    ghost use Rattle.rest_site.specs.Ruled.{ruled_machine, ruled_bytes};
+    ghost use Rattle.site_lives.specs.Bytes.{TakesBack};
 
     ghost Plain = { Acquainted };
 
-    ghost plain = { acquainted_machine };
+    ghost plain = { ruled_machine };
 
     ghost stands = { AcquaintedStands };
 
     ghost opening = { opened_alone };
 
-    ghost lasting = { lasting_bytes };
+    ghost lasting = { ruled_bytes };
 
     ghost takes_back = { TakesBack };
 
@@ -58,6 +64,8 @@ impl Resting for RestSite {
             let new = self.meet(request, out);
             put_life(&new, log);
             Ok(())
+        } else if is_join(request) {
+            serve_join(&mut self.core, self.alloc, request, out, log)
         } else {
             serve(&mut self.core, actor, request, out, log)
         }

@@ -3,7 +3,7 @@ use Rattle.std.specs.Prelude.{ℕ, Bool, true, ◌==◌, ◌&&◌, not, List, []
 use Rattle.std.specs.List.{list_all, list_any, slice_split, before_first, after_first}
 use Rattle.tardis_base.specs.Bytes.{is_within}
 use Rattle.rule_list.specs.declared.rules.Rule.{Rule}
-use Rattle.rule_list.specs.declared.rules.Rule.TheVariants.{Last, Count, Set, Refuse}
+use Rattle.rule_list.specs.declared.rules.Rule.TheVariants.{Last, Count, Set, Set3, Refuse}
 use Rattle.rule_list.specs.declared.rules.PrefixRule.{PrefixRule}
 
 -- what stands between the commas
@@ -28,13 +28,14 @@ is_prefix prefix = nat_le (length prefix) 64 && are_printed prefix
 
 -- the names of the rules
 abbrev pub is_name : List ℕ → Bool
-is_name name = list_any (bytes_eq name) (codes "last" ∷ codes "count" ∷ codes "set" ∷ codes "refuse" ∷ [])
+is_name name = list_any (bytes_eq name) (codes "last" ∷ codes "count" ∷ codes "set" ∷ codes "set3" ∷ codes "refuse" ∷ [])
 
 abbrev pub rule_named : List ℕ → Rule
 rule_named name =
     if bytes_eq name (codes "last") then Last else
     (if bytes_eq name (codes "count") then Count else
-    (if bytes_eq name (codes "set") then Set else Refuse))
+    (if bytes_eq name (codes "set") then Set else
+    (if bytes_eq name (codes "set3") then Set3 else Refuse)))
 
 -- a prefix, `=`, and the name of a rule
 abbrev pub is_rule : List ℕ → Bool

@@ -9,5 +9,5 @@ mod reading;
 mod rules;
 
 pub use choosing::rule_for;
-pub use reading::read_rules;
+pub use reading::{are_rules, read_rules};
 pub use rules::{PrefixRule, Rule, RuleList, RulesFault};

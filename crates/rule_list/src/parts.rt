@@ -58,6 +58,7 @@ pub(crate) fn rule_named(name: &str) -> Option<Rule>
         "last" => Some(Rule::Last),
         "count" => Some(Rule::Count),
         "set" => Some(Rule::Set),
+        "set3" => Some(Rule::Set3),
         "refuse" => Some(Rule::Refuse),
         _ => None,
     }

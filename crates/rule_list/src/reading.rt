@@ -10,7 +10,7 @@ use crate::rules::{PrefixRule, Rule, RuleList, RulesFault};
 use std::alloc::Global;
 use tardis_base::{ByteList, NoMemory};
 
-/// Reads rules, joined by commas. A rule is a prefix, `=`, and `last`, `count`, `set` or `refuse`. The time is in
+/// Reads rules, joined by commas. A rule is a prefix, `=`, and `last`, `count`, `set`, `set3` or `refuse`. The time is in
 /// proportion to the length of the text, and to the square of the number of rules.
 pub fn read_rules(alloc: Global, text: &str) -> Result<RuleList, RulesFault>
     ensures rules { IfOk result (λ rules. rules_of text.now ≡ Some rules) }
@@ -25,8 +25,8 @@ pub fn read_rules(alloc: Global, text: &str) -> Result<RuleList, RulesFault>
     }
 }
 
-/// Whether the text has the form.
-fn are_rules(text: &str) -> bool
+/// Whether the text has the form. It takes no memory; the time is that of `read_rules`.
+pub fn are_rules(text: &str) -> bool
     ensures { result ≡ are_rules (parts text.now) }
 {
     count_of(text) <= 16 && are_all_rules(text) && are_distinct(text)

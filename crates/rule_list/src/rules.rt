@@ -14,6 +14,8 @@ pub enum Rule {
     Count,
     /// Sets of items, of which the union stands.
     Set,
+    /// Sets of items, to which both branches added and from which both removed.
+    Set3,
     /// Nothing joins them.
     Refuse,
 }

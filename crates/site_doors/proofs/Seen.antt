@@ -6,7 +6,8 @@ use Rattle.tardis_base.specs.Plain.{Event, PlainMachine}
 use Rattle.hub.specs.Settlings.{behind_doors}
 use Rattle.hub.specs.Doors.{DoorRules, seen_through}
 use Rattle.hub.specs.DoorLaws.{IsSeenBehind}
-use Rattle.site_lives.specs.Acquainted.{Acquainted, acquainted_machine}
+use Rattle.site_lives.specs.Acquainted.{Acquainted}
+use Rattle.rest_site.specs.Ruled.{ruled_machine}
 use Rattle.site_log.specs.Kept.{Kept, IsSettled, with_settle, logged}
 use Rattle.site_doors.specs.Rules.{site_doors}
 use Rattle.site_doors.specs.Kept.{resting, kept_doors}
@@ -43,7 +44,7 @@ shown shows true a c = refl
 shown shows false a c = refl
 
 -- a site in memory is seen as it is
-pub seen_site : IsSeenBehind (behind_doors acquainted_machine (seen_through acquainted_machine site_doors) (λ s. Unit {0}) (λ s. s)) acquainted_machine site_doors (λ s. s)
+pub seen_site : IsSeenBehind (behind_doors ruled_machine (seen_through ruled_machine site_doors) (λ s. Unit {0}) (λ s. s)) ruled_machine site_doors (λ s. s)
 seen_site = record {
   within = record { step = λ s e. refl; reply = λ s e. refl; is_sure = λ e. refl; settled = λ s. refl };
   step = λ door s e. refl;
@@ -52,7 +53,7 @@ seen_site = record {
 }
 
 -- one with its log is seen as the site that is kept
-pub seen_kept : IsSeenBehind (behind_doors (logged resting) (seen_through (logged resting) kept_doors) IsSettled with_settle) acquainted_machine site_doors (λ kept. kept.state)
+pub seen_kept : IsSeenBehind (behind_doors (logged resting) (seen_through (logged resting) kept_doors) IsSettled with_settle) ruled_machine site_doors (λ kept. kept.state)
 seen_kept = record {
   within = record { step = λ s e. refl; reply = λ s e. refl; is_sure = λ e. refl; settled = λ s. refl };
   step = λ door s e. shown (λ (kept : Kept Acquainted). kept.state) (site_doors.lets_in door e.1) ((logged resting).step s e) s;

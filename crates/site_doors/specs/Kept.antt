@@ -3,15 +3,16 @@ use Rattle.rest_machine.specs.declared.resting.Resting.{Ghosts as AResting}
 use Rattle.rest_machine.specs.declared.settling.Settling.{Ghosts as ASettling}
 use Rattle.hub.specs.Settlings.{PlainSettling, behind_doors}
 use Rattle.hub.specs.Doors.{DoorRules}
-use Rattle.site_lives.specs.Acquainted.{Acquainted, acquainted_machine}
+use Rattle.site_lives.specs.Acquainted.{Acquainted}
+use Rattle.rest_site.specs.Ruled.{ruled_machine, ruled_bytes}
 use Rattle.rest_site.specs.Stands.{CoreWithLives, AcquaintedStands, opened_alone}
-use Rattle.site_lives.specs.Bytes.{lasting_bytes, TakesBack}
+use Rattle.site_lives.specs.Bytes.{TakesBack}
 use Rattle.site_log.specs.Kept.{Kept}
 use Rattle.site_doors.specs.Rules.{site_doors}
 
 -- the site as a machine that starts again from what lasted
 abbrev pub resting : AResting CoreWithLives
-resting = record { Plain = Acquainted; plain = acquainted_machine; stands = AcquaintedStands; opening = opened_alone; lasting = lasting_bytes; takes_back = TakesBack }
+resting = record { Plain = Acquainted; plain = ruled_machine; stands = AcquaintedStands; opening = opened_alone; lasting = ruled_bytes; takes_back = TakesBack }
 
 -- the same doors, before the site that is kept
 abbrev pub kept_doors : DoorRules (Kept Acquainted)

@@ -3,10 +3,12 @@ use Rattle.std.specs.Prelude.{◌≡◌, true, false, []}
 use Rattle.plain_site.specs.RowWords.{site_after, lone_site}
 use Rattle.plain_site.specs.RowByteWords.{hex}
 use Rattle.plain_questions.specs.RowsOfReads.{parted}
-use Rattle.site_lives.specs.Acquainted.{unacquainted, acquainted_machine}
+use Rattle.site_lives.specs.Acquainted.{unacquainted}
+use Rattle.rest_site.specs.Ruled.{ruled_machine}
 use Rattle.site_doors.specs.Rules.{is_let_in, told_at, is_sure_at}
 
--- all requests, Tidy among them; a code of no request is the site's to answer, and a question is answered at the door
+-- All requests, Tidy among them; a code of no request is the site's to answer, and a question is answered at the door. To join leaves
+-- is no request that comes in, and no question.
 abbrev pub AllComesInByTheFirstDoor : Type 0
 AllComesInByTheFirstDoor =
     let site = unacquainted (site_after lone_site parted) in
@@ -17,6 +19,8 @@ AllComesInByTheFirstDoor =
     -- the sessions behind 1, and bytes that spell no question
     × (told_at 0 site (hex "45 01 0001") ≡ hex "45 0000 00000000 00000001 0001 0002 00 0000 00000000 0001 00000003 00 01")
     × (told_at 0 site (hex "ff") ≡ hex "15 01")
+    × (is_let_in 0 (hex "4a") ≡ false)
+    × (told_at 0 site (hex "4a") ≡ hex "15 01")
 
 -- a Commit comes in, and a Tidy doesn't; y at 1.1 is told, and the sessions aren't
 abbrev pub ClientsComeInByTheSecondDoor : Type 0
@@ -24,8 +28,10 @@ ClientsComeInByTheSecondDoor =
     let site = unacquainted (site_after lone_site parted) in
     (is_let_in 1 (hex "06 00 0000") ≡ true)
     × (is_let_in 1 (hex "0f 0001") ≡ false)
+    × (is_let_in 1 (hex "4a") ≡ false)
     × (is_let_in 1 [] ≡ true)
     × (told_at 1 site (hex "0f 0001") ≡ hex "15 1b 0f")
+    × (told_at 1 site (hex "4a") ≡ hex "15 1b 4a")
     × (told_at 1 site (hex "40 0001 00000001 01 79") ≡ hex "40 00")
     × (told_at 1 site (hex "45 00") ≡ hex "15 1b 45")
 
@@ -35,6 +41,7 @@ PeersComeInByTheThirdDoor =
     let site = unacquainted (site_after lone_site parted) in
     (is_let_in 2 (hex "13 0001 00000000") ≡ true)
     × (is_let_in 2 (hex "01 00") ≡ false)
+    × (is_let_in 2 (hex "4a") ≡ false)
     × (told_at 2 site (hex "01 00") ≡ hex "15 1b 01")
     × (told_at 2 site (hex "46") ≡ hex "46 0001 0001 00004000 00001000 0100 0000000040000000 0001 0000000000000004 00000004")
     × (told_at 2 site (hex "41 0001 00000001 00 00") ≡ hex "15 1b 41")
@@ -52,7 +59,7 @@ NothingComesInByAFourthDoor =
 abbrev pub LivesAreToldAtEachDoor : Type 0
 LivesAreToldAtEachDoor =
     let unborn = unacquainted (site_after lone_site parted) in
-    let site = acquainted_machine.step unborn (0, hex "49 aaaaaaaaaaaaaaaaaaaaaaaaaaaaaaaa") in
+    let site = ruled_machine.step unborn (0, hex "49 aaaaaaaaaaaaaaaaaaaaaaaaaaaaaaaa") in
     let told = hex "47 0001 0001 aaaaaaaaaaaaaaaaaaaaaaaaaaaaaaaa" in
     (is_let_in 0 (hex "47") ≡ false)
     × (told_at 0 site (hex "47") ≡ told)

@@ -10,7 +10,7 @@ use tardis_io::Failed;
 
 /// A site that is lost when it ends, with the lives that it knows, behind its doors: what comes in through one is a request to the
 /// site, and everything else is answered at the door. What a question costs is told at `site_questions::answer`. Requests about
-/// lives come in through no door.
+/// lives, and those to join leaves, come in through no door.
 #[derive(Drop)]
 pub struct AskedSite {
     pub alloc: Global,
@@ -19,16 +19,17 @@ pub struct AskedSite {
 
 impl Settling for AskedSite {
     ghost use Rattle.std.specs.Prelude.{◌≡◌, ℕ};
-    ghost use Rattle.site_lives.specs.Acquainted.{Acquainted, acquainted_machine};
+    ghost use Rattle.site_lives.specs.Acquainted.{Acquainted};
+    ghost use Rattle.rest_site.specs.Ruled.{ruled_machine};
     ghost use Rattle.rest_site.specs.Stands.{AcquaintedStands, opened_alone};
     ghost use Rattle.hub.specs.Doors.{seen_through, seen_guards};
     ghost use Rattle.site_doors.specs.Rules.{site_doors};
 
     ghost Plain = { Acquainted };
 
-    ghost plain = { acquainted_machine };
+    ghost plain = { ruled_machine };
 
-    ghost through = { seen_through acquainted_machine site_doors };
+    ghost through = { seen_through ruled_machine site_doors };
 
     ghost stands = { λ a plain. AcquaintedStands a.site plain };
 
@@ -68,5 +69,5 @@ impl Settling for AskedSite {
 
     ghost settles = { λ plain. tt };
 
-    ghost guards = { seen_guards acquainted_machine site_doors };
+    ghost guards = { seen_guards ruled_machine site_doors };
 }

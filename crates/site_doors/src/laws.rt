@@ -1,7 +1,7 @@
 //! Laws of the runs of a hub over a site behind its doors, and of the bodies of its file. Each call does nothing.
 
 ghost use Rattle.hub.specs.DoorLaws.{TrailBehindDoors};
-ghost use Rattle.site_lives.specs.Acquainted.{acquainted_machine};
+ghost use Rattle.rest_site.specs.Ruled.{ruled_machine};
 ghost use Rattle.site_doors.specs.Rules.{site_doors};
 ghost use Rattle.site_doors.specs.Kept.{served};
 ghost use Rattle.site_doors.specs.Larger.{FilesOpenUnderLargerLimits};
@@ -17,14 +17,14 @@ use site_lives::larger_limits_take_the_same_bytes;
 /// Over a site in memory behind its doors the requests that came in are one run of the plain site with the lives that it knows, in
 /// order, with the replies that were given to them; and each other one was answered at its door, from the site at its place.
 pub fn one_trail_of_a_site()
-    ensures { TrailBehindDoors (served ⟦<AskedSite as Settling>⟧) acquainted_machine site_doors (λ a. a) }
+    ensures { TrailBehindDoors (served ⟦<AskedSite as Settling>⟧) ruled_machine site_doors (λ a. a) }
 {
     one_trail_behind_doors_as_seen::<AskedSite, RestSite>();
 }
 
 /// So they are over a site with its log.
 pub fn one_trail_of_a_kept_site<K: BytewiseDisk>()
-    ensures { TrailBehindDoors (served ⟦<AskedLog<K> as Settling>⟧) acquainted_machine site_doors (λ kept. kept.state) }
+    ensures { TrailBehindDoors (served ⟦<AskedLog<K> as Settling>⟧) ruled_machine site_doors (λ kept. kept.state) }
 {
     one_trail_behind_doors_as_seen::<AskedLog<K>, RestSite>();
 }

@@ -45,6 +45,49 @@ pub(crate) const MERGED_TWICE: &str = "\
 1 auto => refused txnopen
 ";
 
+/// The rules of the next two tables, and of those above again: nothing tells what was removed since both began, where that isn't known.
+pub(crate) const SETS: &str = "s=set,=set3";
+
+/// Two branches changed one set, under each of the two rules for sets; made another; and deleted a third, or added to it.
+pub(crate) const CHANGED_SETS: &str = "\
+1 open => opened 0.0
+2 open => opened 0.0
+1 begin any => begun 0.0
+1 put s a,b,c,d => done
+1 put t a,b,c,d => done
+1 put v p,q => done
+1 put w b,a => done
+1 commit si => committed 1.1 from 0.0
+1 begin any => begun 1.1
+2 begin any => begun 1.1
+1 put s b,c,d,e => done
+1 put t b,c,d,e => done
+1 put u x => done
+1 del v => done
+2 put s a,c,f => done
+2 put t a,c,f => done
+2 put u y => done
+2 put v p,q,r => done
+1 commit si => committed 1.2 from 1.1
+2 commit si => committed 1.3 from 1.1
+1 auto => auto 1.4
+1 begin any => begun 1.4
+1 get s => value 1.4 a,b,c,d,e,f
+1 get t => value 1.4 c,e,f
+1 get u => value 1.4 x,y
+1 get v => value 1.4 r
+";
+
+/// What both began with is no set.
+pub(crate) const NO_SET_BEFORE: &str = "\
+2 begin any => begun 1.4
+1 put w a => done
+2 put w b => done
+1 commit si => committed 1.5 from 1.4
+2 commit si => committed 1.6 from 1.4
+1 auto => auto refused w
+";
+
 /// Lines that are no auto lines.
 pub(crate) const NO_AUTO_LINES: &str = "\
 auto => refused malformed

@@ -1,8 +1,8 @@
 //! Worked lines through the command.
 
 use crate::auto_rows::{
-    BOTH_BEGIN, BOTH_COMMIT, BOTH_GO_ON, FORK, LETTERS, MERGED, MERGED_TWICE, MORE_ARE_WIDE,
-    MOST_ARE_MERGED, NO_AUTO_LINES, SHOP, SHOPPING,
+    BOTH_BEGIN, BOTH_COMMIT, BOTH_GO_ON, CHANGED_SETS, FORK, LETTERS, MERGED, MERGED_TWICE,
+    MORE_ARE_WIDE, MOST_ARE_MERGED, NO_AUTO_LINES, NO_SET_BEFORE, SETS, SHOP, SHOPPING,
 };
 use crate::lines::Lines;
 use crate::sites::{LIMITS, an_input, an_output, keys};
@@ -79,9 +79,11 @@ fn are_answered(
 }
 
 /// Rules, and the tables of lines that are asked one after the other.
-const TALKS: [(&str, [&str; 2]); 3] = [
+const TALKS: [(&str, [&str; 2]); 5] = [
     (LETTERS, [FORK, MERGED]),
     (LETTERS, [FORK, MERGED_TWICE]),
+    (SETS, [CHANGED_SETS, NO_SET_BEFORE]),
+    (SETS, [FORK, MERGED_TWICE]),
     (SHOP, [NO_AUTO_LINES, SHOPPING]),
 ];
 

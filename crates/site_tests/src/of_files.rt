@@ -97,6 +97,10 @@ impl Ports for OneByOne<'_> {
         0
     }
 
+    fn note_reply(&mut self, reply: &[u8]) {
+        let _ = reply;
+    }
+
     fn tell_failure(&mut self, peer: usize, why: Failure) {
         let _ = peer;
         let _ = why;

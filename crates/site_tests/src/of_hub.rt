@@ -310,8 +310,11 @@ fn upkeeps_of(rt: &impl Abort, alloc: Global, left: u8, reads: &[(u8, u16)]) -> 
     let upkeep = Upkeep {
         codes: &[8, 17],
         after: 64,
+        pays: 64,
         requests: &[&[15]],
         full: &[1],
+        idle: &[],
+        later: 64,
     };
     let machine = Slicing { left, made: 0 };
     let mut machine = InMemory { machine };

@@ -153,7 +153,7 @@ fn move_of(rt: &impl Abort, alloc: Global, letter: u8, now: u64) -> Move {
     }
 }
 
-/// The letter of a call that the edge saw, if it is more than an offer.
+/// The letter of a call that the edge saw, if it is more than an offer; of what the hub asked itself each reply is one.
 fn letter_of(call: &Seen) -> Option<u8> {
     match call {
         Seen::CalledPeer { peer: 0 } => Some(b'c'),
@@ -173,6 +173,7 @@ fn letter_of(call: &Seen) -> Option<u8> {
         Seen::Accepted { .. } => Some(b'+'),
         Seen::ReadFrom { .. } => Some(b'a'),
         Seen::WroteTo { .. } => Some(b'A'),
+        Seen::NotedReply { .. } => Some(b'u'),
         Seen::Offered(_) => None,
         _ => Some(b'?'),
     }
@@ -198,8 +199,11 @@ fn came_of(rt: &impl Abort, alloc: Global, letters: &[u8], settles: u8) -> (End,
     let upkeep = Upkeep {
         codes: &[17],
         after: 3,
+        pays: 3,
         requests: &[&[15, 0], &[15, 1]],
         full: &[1],
+        idle: &[],
+        later: 3,
     };
     let scope = Scope {
         connections: 256,
@@ -221,9 +225,9 @@ fn came_of(rt: &impl Abort, alloc: Global, letters: &[u8], settles: u8) -> (End,
 fn a_peer_is_fetched_from_beside_a_client(rt: HostRuntime) {
     let rows: [(&[u8], u8, End, u8, &[u8]); 7] = [
         // a peer is met, and an exchange made: Stat and three items, and for their replies an upkeep of two requests
-        (b"tcwitwrt", 9, End::Stopped, 7, b"cgrwr"),
+        (b"tcwitwrt", 9, End::Stopped, 7, b"cgrwruu"),
         // beside a client, whose reply counts as well; nothing is done for a peer that isn't there, nor where it has nothing to do
-        (b"+3rwtacwitwArtA", 9, End::Stopped, 8, b"+cagrwAr"),
+        (b"+3rwtacwitwArtA", 9, End::Stopped, 8, b"+cagrwAruu"),
         // its call fails twice, which is told once, and it is called again after a second
         (b"totttotttt", 9, End::Stopped, 0, b"cx!cxc"),
         // the question waits for the settling, and isn't written without; nor is the first one behind a client's request

@@ -7,9 +7,10 @@ use crate::doors::{Door, is_passing};
 use crate::idles::Idle;
 use crate::lines::Line;
 use crate::plugs::{Plug, Work};
+use crate::rooms::Room;
 use crate::slots::Slots;
 use crate::streams::Stream;
-use crate::watches::Watch;
+use crate::watches::{Quiet, Watch};
 use hub::{Connection, PeerNews, Ports, Ready, SLOTS};
 use mio::{Events, Poll, Token};
 use site_peers::{Failure, Peer};
@@ -17,6 +18,8 @@ use std::alloc::Global;
 use std::io;
 use std::net::Net;
 use std::time::{Clock, Duration};
+use tardis_base::Reply;
+use wire_talk::read_reply;
 
 /// The name of the first door among the events of the system; those of the others follow, and then those of the peers. The connections
 /// have their slots' numbers.
@@ -62,6 +65,7 @@ enum Step {
 #[derive(Drop)]
 pub struct SocketPorts<'a, R, W> {
     rt: &'a R,
+    alloc: Global,
     poll: Poll,
     events: Events,
     doors: Vec<Door>,
@@ -85,12 +89,14 @@ pub struct SocketPorts<'a, R, W> {
     /// The slot of which a read was offered, and how many bytes waited to be written to it then.
     heard: Option<(usize, usize)>,
     clock: Stopwatch,
+    /// What was told of how many states are kept.
+    room: Room,
     watch: W,
 }
 
 impl<'a, R: Net + Clock, W: Watch + Drop> SocketPorts<'a, R, W> {
     /// The connections that will come through these doors, so many at once, and those to peers at these addresses. A connection that
-    /// asked nothing for so many seconds is ended, within a second behind that.
+    /// asked nothing for so many seconds is ended, within a second behind that. The site may keep so many states.
     pub fn new(
         rt: &'a R,
         alloc: Global,
@@ -98,6 +104,7 @@ impl<'a, R: Net + Clock, W: Watch + Drop> SocketPorts<'a, R, W> {
         peers: Vec<String>,
         connections: u16,
         idle: Option<u32>,
+        states: u32,
         watch: W,
     ) -> io::Result<SocketPorts<'a, R, W>> {
         let poll = Poll::new(rt)?;
@@ -124,6 +131,7 @@ impl<'a, R: Net + Clock, W: Watch + Drop> SocketPorts<'a, R, W> {
         };
         Ok(SocketPorts {
             rt,
+            alloc,
             poll,
             events,
             doors,
@@ -139,6 +147,7 @@ impl<'a, R: Net + Clock, W: Watch + Drop> SocketPorts<'a, R, W> {
             idle,
             heard: None,
             clock: Stopwatch::new(rt)?,
+            room: Room::new(states),
             watch,
         })
     }
@@ -314,7 +323,7 @@ impl<'a, R: Net + Clock, W: Watch + Drop> SocketPorts<'a, R, W> {
     fn note_asked(&mut self, connections: &[Option<Connection>]) {
         if let Some((slot, before)) = self.heard {
             self.heard = None;
-            if self.idle.is_some() && before < waiting_for(connections, slot) {
+            if before < waiting_for(connections, slot) {
                 self.touch(slot);
             }
         }
@@ -423,11 +432,29 @@ impl<'a, R: Net + Clock, W: Watch + Drop> SocketPorts<'a, R, W> {
         }
     }
 
-    /// Looks at the clock, where it matters.
+    /// Looks at the clock.
     fn look(&mut self) {
-        if self.idle.is_some() || !self.lines.is_empty() {
-            self.clock.look(self.rt);
+        self.clock.look(self.rt);
+    }
+
+    /// The connection that was silent for longest, if there is one.
+    fn quietest(&self) -> Option<Quiet> {
+        let now = self.clock.now();
+        let mut longest = None;
+        let mut millis = 0;
+        for plug in self.plugs.iter() {
+            if let Some(plug) = plug {
+                let silent = plug.silent_for(now);
+                if longest.is_none() || silent > millis {
+                    millis = silent;
+                    longest = Some(Quiet {
+                        address: plug.stream().address(),
+                        seconds: silent / 1_000,
+                    });
+                }
+            }
         }
+        longest
     }
 
     /// Passes over the connections that have nothing to do any more.
@@ -615,6 +642,15 @@ impl<R: Net + Clock, W: Watch + Drop> Ports for SocketPorts<'_, R, W> {
         match self.lines.get_mut(peer) {
             Some(line) => line.write(bytes, self.poll.registry()),
             None => 0,
+        }
+    }
+
+    fn note_reply(&mut self, reply: &[u8]) {
+        if let Ok(Reply::Stat { kept, .. }) = read_reply(self.alloc, reply) {
+            if self.room.is_news(kept) {
+                let quietest = self.quietest();
+                self.watch.crowded(kept, self.room.most(), quietest);
+            }
         }
     }
 

@@ -10,6 +10,7 @@ mod edges;
 mod idles;
 mod lines;
 mod plugs;
+mod rooms;
 mod slots;
 mod streams;
 mod unix_doors;
@@ -17,4 +18,4 @@ mod watches;
 
 pub use doors::{Door, DoorFault, open_door, path_of};
 pub use edges::SocketPorts;
-pub use watches::Watch;
+pub use watches::{Quiet, Watch};

@@ -105,9 +105,14 @@ impl Plug {
         self.since = now;
     }
 
+    /// For how many milliseconds it has asked nothing, and taken no bytes.
+    pub(crate) fn silent_for(&self, now: u64) -> u64 {
+        now.saturating_sub(self.since)
+    }
+
     /// How many milliseconds are left of so many in which it may ask nothing.
     pub(crate) fn rests_for(&self, idle: u64, now: u64) -> u64 {
-        idle.saturating_sub(now.saturating_sub(self.since))
+        idle.saturating_sub(self.silent_for(now))
     }
 
     /// Notes what the system told.

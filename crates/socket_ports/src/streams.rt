@@ -9,7 +9,7 @@ ghost use Rattle.wire_talk.specs.Spellings.{reply_spelling};
 use mio::net::{TcpStream, UnixStream};
 use mio::{Interest, Registry, Token};
 use std::io::{self, Read, Write};
-use std::net::Shutdown;
+use std::net::{Shutdown, SocketAddr};
 use wire_talk::{refusal_codes, reply_codes};
 
 /// A connection.
@@ -77,6 +77,14 @@ impl Stream {
         match self {
             Stream::Unix(stream) => stream.write(bytes),
             Stream::Tcp(stream) => stream.write(bytes),
+        }
+    }
+
+    /// Where the connection comes from, if it is one over TCP.
+    pub(crate) fn address(&self) -> Option<SocketAddr> {
+        match self {
+            Stream::Unix(_) => None,
+            Stream::Tcp(stream) => stream.peer_addr().ok(),
         }
     }
 

@@ -1,10 +1,19 @@
-//! Who is told of what becomes of peers.
+//! Who is told of what becomes of peers, and of what an operator should look at.
 
 use site_peers::Failure;
 use std::io;
+use std::net::SocketAddr;
+
+/// A connection that asked nothing, and took no bytes, for longer than all others.
+#[derive(Clone, Copy)]
+pub struct Quiet {
+    /// Where it comes from, if it is one over TCP.
+    pub address: Option<SocketAddr>,
+    pub seconds: u64,
+}
 
 /// Is told of what becomes of peers, by their addresses: each time that one is reached, and each time that one is lost or can't be reached,
-/// but not of each further try.
+/// but not of each further try. And of how many states the site keeps, where they become many.
 pub trait Watch {
     /// The peer's first answer came, or with `again` its first since it was lost.
     fn reached(&mut self, address: &str, again: bool);
@@ -12,4 +21,8 @@ pub trait Watch {
     /// The exchange with the peer failed, and before it none did. `before` says whether it was reached before. Where it couldn't be called, the
     /// system said this.
     fn failed(&mut self, address: &str, before: bool, why: Failure, said: Option<io::ErrorKind>);
+
+    /// So many states are kept, which are more than half of as many as may be, or as many; each is told once, until they were fewer than a
+    /// quarter. The quietest connection may be what holds them.
+    fn crowded(&mut self, kept: u32, most: u32, quietest: Option<Quiet>);
 }

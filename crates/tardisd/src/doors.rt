@@ -66,7 +66,7 @@ impl<'a> SocketDoors<'a> {
         for address in plan.peers.iter() {
             peers.push(String::from_str(self.rt.alloc(), address)?)?;
         }
-        let watch = PeersTold::new(self.rt);
+        let watch = PeersTold::new(self.rt, plan.tidy);
         let connections = plan.capacity.connections;
         SocketPorts::new(
             self.rt,
@@ -75,6 +75,7 @@ impl<'a> SocketDoors<'a> {
             peers,
             connections,
             plan.idle,
+            plan.capacity.states,
             watch,
         )
     }

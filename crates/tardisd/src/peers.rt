@@ -1,19 +1,22 @@
-//! What is told of peers on standard error: that one is reached, that it is lost or can't be reached, and what is to be done.
+//! What is told on standard error while a site is served: that a peer is reached, that it is lost or can't be reached, that the site
+//! keeps many states; and what is to be done.
 
 use site_peers::{Failure, NO_VERDICT};
-use socket_ports::Watch;
+use socket_ports::{Quiet, Watch};
 use std::{fmt, io};
 use wire_lives::life_codes::{ANOTHER_LIFE, NO_INTRODUCTION, NO_LIFE, OTHER_SITES, OWN_NUMBER};
 
-/// Tells of peers on standard error, in a line each time.
+/// Tells of peers and of the room that is left on standard error, in a line each time.
 #[derive(Drop)]
 pub(crate) struct PeersTold<'a> {
     rt: &'a HostRuntime,
+    /// States are collected.
+    tidy: bool,
 }
 
 impl<'a> PeersTold<'a> {
-    pub(crate) fn new(rt: &'a HostRuntime) -> PeersTold<'a> {
-        PeersTold { rt }
+    pub(crate) fn new(rt: &'a HostRuntime, tidy: bool) -> PeersTold<'a> {
+        PeersTold { rt, tidy }
     }
 }
 
@@ -31,6 +34,58 @@ impl Watch for PeersTold<'_> {
             said,
         };
         let _ = self.rt.eprintln(lost);
+    }
+
+    fn crowded(&mut self, kept: u32, most: u32, quietest: Option<Quiet>) {
+        let crowded = Crowded {
+            kept,
+            most,
+            tidy: self.tidy,
+            quietest,
+        };
+        let _ = self.rt.eprintln(crowded);
+    }
+}
+
+/// The line that many states are kept.
+#[derive(Clone, Copy)]
+struct Crowded {
+    kept: u32,
+    most: u32,
+    tidy: bool,
+    quietest: Option<Quiet>,
+}
+
+impl fmt::Display for Crowded {
+    fn fmt<W: fmt::Write>(&self, f: &mut fmt::Formatter<W>) -> fmt::Result {
+        let Crowded {
+            kept,
+            most,
+            tidy,
+            quietest,
+        } = *self;
+        write!(f, "tardisd: {kept} of {most} states are kept: ")?;
+        if !tidy {
+            return write!(f, "nobody collects them: start it again with --tidy");
+        }
+        match quietest {
+            Some(quiet) => {
+                write!(f, "the connection ")?;
+                match quiet.address {
+                    Some(address) => write!(f, "from {address}")?,
+                    None => write!(f, "over a Unix socket")?,
+                }
+                write!(
+                    f,
+                    " that has been silent for {} seconds, longer than all others, may hold the floor: end it, or start with --idle SECONDS",
+                    quiet.seconds
+                )
+            }
+            None => write!(
+                f,
+                "another site may hold the floor, or leaves that nobody joins"
+            ),
+        }
     }
 }
 

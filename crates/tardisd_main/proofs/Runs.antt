@@ -9,7 +9,8 @@ use Rattle.hub.specs.Settlings.{PlainSettling}
 use Rattle.hub.specs.Upkeeps.{UpkeepRule}
 use Rattle.hub.specs.Runs.{IsRun}
 use Rattle.plain_site.specs.Sound.{IsSound}
-use Rattle.site_lives.specs.Acquainted.{Acquainted, acquainted_machine}
+use Rattle.site_lives.specs.Acquainted.{Acquainted}
+use Rattle.rest_site.specs.Ruled.{ruled_machine}
 use Rattle.rest_site.specs.Stands.{CoreWithLives, AcquaintedStands}
 use Rattle.site_doors.specs.declared.asked_sites.AskedSite.{AskedSite}
 use Rattle.tardisd_main.specs.Sites.{upkeep_rule, scope_of, begin_life, opens_at, asked_site, ServesPlace}
@@ -35,12 +36,12 @@ weaker w rule scope to told s end before after tells run =
 -- a run of what stands for the site of a place that opens and begins a life
 pub serves_place : {E : Type 0} (asked : Daemon) (life : List ℕ) (held : CoreWithLives) (result : Result End E) (before after : Option (List Seen))
     → AcquaintedStands held (opens_at asked)
-    → IfOk result (λ end. (a : Acquainted) → AcquaintedStands held a → IsRun asked_site (upkeep_rule asked.tidy) (scope_of asked)
-    (λ t. (m : AskedSite) × AcquaintedStands m.site t) (acquainted_machine.step a (begin_life life)) end before after)
+    → IfOk result (λ end. (a : Acquainted) → AcquaintedStands held a → IsRun asked_site (upkeep_rule asked.tidy asked.rules) (scope_of asked)
+    (λ t. (m : AskedSite) × AcquaintedStands m.site t) (ruled_machine.step a (begin_life life)) end before after)
     → IfOk result (λ end. ServesPlace asked life end before after)
 serves_place asked life held (Ok end) before after stands run =
-    weaker asked_site (upkeep_rule asked.tidy) (scope_of asked) (λ t. (m : AskedSite) × AcquaintedStands m.site t) (λ a. IsSound a.site)
-    (acquainted_machine.step (opens_at asked) (begin_life life)) end before after (λ t both. both.1.0.1) (run (opens_at asked) stands)
+    weaker asked_site (upkeep_rule asked.tidy asked.rules) (scope_of asked) (λ t. (m : AskedSite) × AcquaintedStands m.site t) (λ a. IsSound a.site)
+    (ruled_machine.step (opens_at asked) (begin_life life)) end before after (λ t both. both.1.0.1) (run (opens_at asked) stands)
 serves_place asked life held (Err fault) before after stands run = tt
 
 -- a machine that counts no fault can always settle

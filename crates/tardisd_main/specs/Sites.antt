@@ -1,10 +1,11 @@
 -- What is served from a site.
 use Rattle.std.specs.Prelude.{ℕ, Bool, true, false, List, [], ◌∷◌, length, Option, Some, None}
 use Rattle.tardis_base.specs.Plain.{Event}
-use Rattle.tardis_base.specs.declared.requests.Request.TheVariants.{RaiseAuto, Tidy}
+use Rattle.tardis_base.specs.declared.requests.Request.TheVariants.{Stat, RaiseAuto, Tidy}
 use Rattle.tardis_base.specs.declared.replies.Reply.TheVariants.{Tidied}
 use Rattle.wire_talk.specs.Spellings.{request_spelling, reply_spelling}
 use Rattle.wire_lives.specs.declared.life_codes.TheConstants.{BEGIN_LIFE}
+use Rattle.join_rules.specs.declared.join_codes.TheConstants.{JOIN, JOINED, LEFT}
 use Rattle.command_words.specs.Daemons.{Daemon, daemon_limits}
 use Rattle.hub.specs.declared.ports.Scope.{Scope}
 use Rattle.hub.specs.declared.ports.Seen.{Seen}
@@ -15,20 +16,56 @@ use Rattle.hub.specs.Upkeeps.{UpkeepRule}
 use Rattle.hub.specs.Runs.{IsRun}
 use Rattle.plain_site.specs.Site.{opening}
 use Rattle.plain_site.specs.Sound.{IsSound}
-use Rattle.site_lives.specs.Acquainted.{Acquainted, unacquainted, acquainted_machine}
+use Rattle.site_lives.specs.Acquainted.{Acquainted, unacquainted}
+use Rattle.rest_site.specs.Ruled.{ruled_machine}
 use Rattle.site_doors.specs.Rules.{site_doors}
 
--- With `--tidy`, for each 64 replies that told of a commit or a delivery, of how much is known, or that something was refused, the
--- floor is raised and then up to 64 states are collected; and again in the next turn where as many were. 8 is the first byte of a reply
--- Committed, 17 that of Applied, 14 that of Stat, and 21 that of a refusal.
-abbrev pub upkeep_rule : Bool → Option UpkeepRule
-upkeep_rule false = None
-upkeep_rule true = Some record {
-  codes = 8 ∷ 17 ∷ 14 ∷ 21 ∷ [];
+-- the replies that count: those that told of a commit or a delivery, of how much is known, or that something was refused. 8 is the first
+-- byte of a reply Committed, 17 that of Applied, 14 that of Stat, and 21 that of a refusal
+abbrev pub counted_codes : List ℕ
+counted_codes = 8 ∷ 17 ∷ 14 ∷ 21 ∷ []
+
+-- For each 64 replies that count these are asked; and again in the next turn where the last of them was answered so. No reply is empty, so
+-- none says that nothing could be done.
+abbrev pub slow_rule : List (List ℕ) → (full : List ℕ) → UpkeepRule
+slow_rule requests full = record {
+  codes = counted_codes;
   after = 64;
-  requests = request_spelling RaiseAuto ∷ request_spelling (Tidy 64) ∷ [];
-  full = reply_spelling (Tidied 64);
+  pays = 64;
+  requests = requests;
+  full = full;
+  idle = [];
+  later = 64;
 }
+
+-- how much is kept, which the edge is told of
+abbrev pub watching : List ℕ
+watching = request_spelling Stat
+
+-- That is asked alone; or with `--tidy` the floor is raised behind it and then up to 64 states are collected, and again in the next turn where
+-- as many were.
+abbrev pub tidy_rule : (tidy : Bool) → UpkeepRule
+tidy_rule false = slow_rule (watching ∷ []) []
+tidy_rule true = slow_rule (watching ∷ request_spelling RaiseAuto ∷ request_spelling (Tidy 64) ∷ []) (reply_spelling (Tidied 64))
+
+-- After each turn in which a reply was given that counts these are asked; and again behind the next turn where the last of them joined two
+-- leaves. Where it left leaves apart, they are asked again once 64 replies were given that count.
+abbrev pub joining_rule : List (List ℕ) → UpkeepRule
+joining_rule requests = record {
+  codes = counted_codes;
+  after = 1;
+  pays = 4294967295;
+  requests = requests;
+  full = JOIN ∷ JOINED ∷ [];
+  idle = JOIN ∷ LEFT ∷ [];
+  later = 64;
+}
+
+-- With rules two leaves are joined by them; with `--tidy` too the floor is raised before that, and up to 4,096 states are collected.
+abbrev pub upkeep_rule : (tidy : Bool) → (rules : Option (List ℕ)) → Option UpkeepRule
+upkeep_rule tidy None = Some (tidy_rule tidy)
+upkeep_rule false (Some rules) = Some (joining_rule (watching ∷ (JOIN ∷ rules) ∷ []))
+upkeep_rule true (Some rules) = Some (joining_rule (watching ∷ request_spelling RaiseAuto ∷ request_spelling (Tidy 4096) ∷ (JOIN ∷ rules) ∷ []))
 
 -- with as many connections as are asked for; from the peers that are asked for, and as often as is asked
 abbrev pub scope_of : Daemon → Scope
@@ -44,11 +81,11 @@ opens_at asked = unacquainted (opening (daemon_limits asked) asked.place.site)
 
 -- the site with the lives that it knows, in memory and behind its doors: it owes nothing, and settling leaves it as it is
 abbrev pub asked_site : PlainSettling Acquainted
-asked_site = behind_doors acquainted_machine (seen_through acquainted_machine site_doors) (λ a. Unit {0}) (λ a. a)
+asked_site = behind_doors ruled_machine (seen_through ruled_machine site_doors) (λ a. Unit {0}) (λ a. a)
 
 -- A run of a hub over the plain site that opens as is asked for and then begins this life, behind its doors, to a sound site, with the
 -- upkeep, the connections and the peers that are asked for, and what the edge saw.
 abbrev pub ServesPlace : Daemon → (life : List ℕ) → End → (before after : Option (List Seen)) → Type 0
 ServesPlace asked life end before after =
-    IsRun asked_site (upkeep_rule asked.tidy) (scope_of asked) (λ a. IsSound a.site) (acquainted_machine.step (opens_at asked) (begin_life life)) end
+    IsRun asked_site (upkeep_rule asked.tidy asked.rules) (scope_of asked) (λ a. IsSound a.site) (ruled_machine.step (opens_at asked) (begin_life life)) end
     before after

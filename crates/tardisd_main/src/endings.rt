@@ -117,7 +117,7 @@ impl fmt::Display for DaemonEnd {
             DaemonEnd::Told => Ok(()),
             DaemonEnd::Usage => write!(
                 f,
-                "usage: tardisd --listen ADDR | --clients ADDR | --peers ADDR .. [--mode MODE] [--idle SECONDS] [--connections N] [--sessions N] [--states N] [--peer ADDR .. [--every SECONDS]] [--sites M] [--site N] [--tidy] [--file PATH] (ADDR is unix:PATH or HOST:PORT)"
+                "usage: tardisd --listen ADDR | --clients ADDR | --peers ADDR .. [--mode MODE] [--idle SECONDS] [--connections N] [--sessions N] [--states N] [--peer ADDR .. [--every SECONDS]] [--sites M] [--site N] [--tidy] [--file PATH] [--rules RULES] (ADDR is unix:PATH or HOST:PORT)"
             ),
             DaemonEnd::WriteFailed => write!(f, "tardisd: write fault"),
             DaemonEnd::NoMemory => write!(f, "tardisd: out of memory"),

@@ -25,12 +25,14 @@ tardisd: serves one site of a branch-and-merge key-value store to many clients
 usage: tardisd DOOR.. [--mode MODE] [--idle SECONDS]
                [--connections N] [--sessions N] [--states N]
                [--peer ADDR.. [--every SECONDS]]
-               [--sites M] [--site N] [--tidy] [--file PATH]
+               [--sites M] [--site N] [--tidy] [--file PATH] [--rules RULES]
                             serve at 1 to 8 doors, as site N of M sites (1 of 1),
                             until it is killed; with --tidy states that nobody
                             reads at any more are collected; with --file the site
                             is kept in that file, made where there is none, and
-                            goes on from it at the next start
+                            goes on from it at the next start; with --rules two
+                            branches are joined wherever these settle all keys in
+                            which they conflict (docs/RULES.md)
        tardisd --help       this text, as do -h and help
        tardisd --version    the version
 

@@ -1,6 +1,6 @@
 //! One site over the connections of an edge.
 
-ghost use Rattle.std.specs.Prelude.{◌≡◌, ◌⊎◌, ◌∷◌, ◌<◌, ◌≤◌, ◌+◌, ℕ, true, length, option_map, IfOk, IfSome, OnOk, OnErr};
+ghost use Rattle.std.specs.Prelude.{◌≡◌, ◌⊎◌, ◌∷◌, ◌<◌, ◌≤◌, ◌+◌, ℕ, true, None, Some, length, map, option_map, IfOk, IfSome, OnOk, OnErr};
 ghost use Rattle.wire_lives.specs.declared.life_codes.TheConstants.{BEGIN_LIFE};
 ghost use Rattle.hub.specs.Connections.{slots};
 ghost use Rattle.hub.specs.Settlings.{behind_doors};
@@ -9,10 +9,12 @@ ghost use Rattle.hub.specs.Runs.{close, IsRun};
 ghost use Rattle.command_words.specs.Daemons.{daemon_of};
 ghost use Rattle.command_words.specs.Capacity.{IsCapacity};
 ghost use Rattle.command_words.specs.Places.{IsPlace};
-ghost use Rattle.tardisd_main.specs.Sites.{upkeep_rule, scope_of, begin_life, ServesPlace};
+ghost use Rattle.join_rules.specs.declared.join_codes.TheConstants.{JOIN};
+ghost use Rattle.tardisd_main.specs.Sites.{upkeep_rule, slow_rule, joining_rule, scope_of, begin_life, ServesPlace};
 
 use command_words::DaemonPlan;
 use hub::{End, Ports, Scope, Upkeep, serve};
+use join_rules::join_codes;
 use rest_machine::Settling;
 use rest_site::RestSite;
 use site_doors::AskedSite;
@@ -21,6 +23,9 @@ use std::hash::RandomState;
 use tardis_base::{NoMemory, ReplyBuf};
 use wire_lives::life_codes;
 use wire_talk::{reply_codes, request_codes};
+
+/// The request Stat, whose reply the edge is told of.
+const STAT: [u8; 1] = [request_codes::STAT];
 
 /// The request RaiseAuto.
 const RAISE_AUTO: [u8; 1] = [request_codes::RAISE_AUTO];
@@ -40,11 +45,22 @@ const COUNTED: [u8; 4] = [
 /// The reply Tidied, of 64 states.
 const FULL: [u8; 5] = [reply_codes::TIDIED, 0, 0, 0, 64];
 
+/// The request Tidy, for 4,096 states.
+const TIDY_MANY: [u8; 3] = [request_codes::TIDY, 16, 0];
+
+/// The reply to a request to join leaves that two were joined.
+const TWO_JOINED: [u8; 2] = [join_codes::JOIN, join_codes::JOINED];
+
+/// The reply that leaves stay apart.
+const LEFT_APART: [u8; 2] = [join_codes::JOIN, join_codes::LEFT];
+
 /// Serves the connections of an edge as the site at the plan's place, which opens with the root alone and then begins this life: each
 /// connection is an actor, and its requests and questions are answered at its door, as `hub::serve` says. From the plan's peers it fetches as
-/// often as that says. Keys are found by hashing with this seed. With `tidy` the floor is raised and up to 64 closed states are
-/// collected, as actor 0 would ask it, for each 64 states that were committed or delivered; and where as many were collected, once
-/// more after the next turn of the edge. Without memory for the site or the buffers nothing is done.
+/// often as that says. Keys are found by hashing with this seed. For each 64 replies that count the edge is told how much is kept. With `tidy` the floor is raised and up to 64 closed states are
+/// collected behind that, as actor 0 would ask it; and where as many were collected, once
+/// more after the next turn of the edge. With rules two leaves are joined by them after each turn in which a
+/// reply was given that counts; and where they settled no two, once 64 such replies were given. Without memory for the site or the buffers nothing is
+/// done.
 pub fn serve_place<P: Ports>(
     alloc: Global,
     keys: RandomState,
@@ -79,7 +95,7 @@ fn serve_machine<M: Settling, P: Ports>(
     requires capacity { IsCapacity plan.now.capacity }
     requires few { length plan.now.peers.items ≤ 15 }
     ensures served { IfOk result (λ end. (s : M.Plain) → M.stands machine s
-        → IsRun (behind_doors M.plain M.through M.is_settled M.settled) (upkeep_rule plan.now.tidy) (scope_of (daemon_of plan.now)) (λ t. (m : M) × M.stands m t)
+        → IsRun (behind_doors M.plain M.through M.is_settled M.settled) (upkeep_rule plan.now.tidy (option_map (λ word. word.now) plan.now.rules)) (scope_of (daemon_of plan.now)) (λ t. (m : M) × M.stands m t)
         (M.plain.step s (begin_life life)) end (P.seen ports.old) (P.seen ports.new)) }
     ensures settled { IfOk result (λ end. end ≡ End.Unsettled → ⊥) }
     ensures nothing { OnErr result (ports.new ≡ ports.old) }
@@ -100,7 +116,7 @@ pub(crate) fn serve_alive<M: Settling, P: Ports>(
     requires capacity { IsCapacity plan.now.capacity }
     requires few { length plan.now.peers.items ≤ 15 }
     ensures served { IfOk result (λ end. (s : M.Plain) → M.stands machine.old s
-        → IsRun (behind_doors M.plain M.through M.is_settled M.settled) (upkeep_rule plan.now.tidy) (scope_of (daemon_of plan.now)) (M.stands machine.new)
+        → IsRun (behind_doors M.plain M.through M.is_settled M.settled) (upkeep_rule plan.now.tidy (option_map (λ word. word.now) plan.now.rules)) (scope_of (daemon_of plan.now)) (M.stands machine.new)
         (M.plain.step s (begin_life life)) end (P.seen ports.old) (P.seen ports.new)) }
     ensures unsettled { IfOk result (λ end. end ≡ End.Unsettled → 0 < M.faults machine.new) }
     ensures stands { OnErr result ((s : M.Plain) → M.stands machine.old s → M.stands machine.new s ⊎ M.stands machine.new (M.plain.step s (begin_life life))) }
@@ -108,9 +124,93 @@ pub(crate) fn serve_alive<M: Settling, P: Ports>(
     ensures opening { M.opening machine.new ≡ M.opening machine.old }
 {
     match begin_life(alloc, machine, life) {
-        Ok(()) => serve(alloc, machine, ports, upkeep_of(plan.tidy), scope_of(plan)),
+        Ok(()) => match plan.rules {
+            Some(rules) => serve_ruled(alloc, machine, rules, plan, ports),
+            None => serve(alloc, machine, ports, upkeep_of(plan.tidy), scope_of(plan)),
+        },
         Err(NoMemory) => Err(NoMemory),
     }
+}
+
+/// Serves the connections of an edge by a machine, with the plan's upkeep and peers, and joins leaves by these rules.
+fn serve_ruled<M: Settling, P: Ports>(
+    alloc: Global,
+    machine: &mut M,
+    rules: &str,
+    plan: &DaemonPlan<'_>,
+    ports: &mut P,
+) -> Result<End, NoMemory>
+    requires sure { (n : ℕ) → n < slots → M.plain.is_sure (n + 1, close) ≡ true }
+    requires capacity { IsCapacity plan.now.capacity }
+    requires few { length plan.now.peers.items ≤ 15 }
+    ensures served { IfOk result (λ end. (s : M.Plain) → M.stands machine.old s
+        → IsRun (behind_doors M.plain M.through M.is_settled M.settled) (upkeep_rule plan.now.tidy (Some rules.now)) (scope_of (daemon_of plan.now))
+        (M.stands machine.new) s end (P.seen ports.old) (P.seen ports.new)) }
+    ensures unsettled { IfOk result (λ end. end ≡ End.Unsettled → 0 < M.faults machine.new) }
+    ensures stands { OnErr result ((s : M.Plain) → M.stands machine.old s → M.stands machine.new s) }
+    ensures nothing { OnErr result (ports.new ≡ ports.old) }
+    ensures opening { M.opening machine.new ≡ M.opening machine.old }
+{
+    let join = join_request(alloc, rules)?;
+    if plan.tidy {
+        let requests: [&[u8]; 4] = [&STAT, &RAISE_AUTO, &TIDY_MANY, join.as_slice()];
+        serve(
+            alloc,
+            machine,
+            ports,
+            Some(join_upkeep(&requests)),
+            scope_of(plan),
+        )
+    } else {
+        let requests: [&[u8]; 2] = [&STAT, join.as_slice()];
+        serve(
+            alloc,
+            machine,
+            ports,
+            Some(join_upkeep(&requests)),
+            scope_of(plan),
+        )
+    }
+}
+
+/// The upkeep that asks these, in slices where the last reply is this one.
+fn slow_upkeep<'a>(requests: &'a [&'a [u8]], full: &'a [u8]) -> Upkeep<'a>
+    ensures { rule_of result ≡ slow_rule (map (λ r. r.now) requests.entry.now) full.entry.now }
+{
+    Upkeep {
+        codes: &COUNTED,
+        after: 64,
+        pays: 64,
+        requests,
+        full,
+        idle: &[],
+        later: 64,
+    }
+}
+
+/// The upkeep of a site that joins leaves, which asks these.
+fn join_upkeep<'a>(requests: &'a [&'a [u8]]) -> Upkeep<'a>
+    ensures { rule_of result ≡ joining_rule (map (λ r. r.now) requests.entry.now) }
+{
+    Upkeep {
+        codes: &COUNTED,
+        after: 1,
+        pays: u32::MAX,
+        requests,
+        full: &TWO_JOINED,
+        idle: &LEFT_APART,
+        later: 64,
+    }
+}
+
+/// The request to join leaves by these rules.
+fn join_request(alloc: Global, rules: &str) -> Result<Vec<u8>, NoMemory>
+    ensures { IfOk result (λ request. request.items ≡ JOIN ∷ rules.now) }
+{
+    let mut request = Vec::new(alloc);
+    request.push(join_codes::JOIN)?;
+    request.extend_from_slice(rules.as_bytes())?;
+    Ok(request)
 }
 
 /// Has a machine begin this life, unless it has one.
@@ -144,19 +244,14 @@ fn scope_of(plan: &DaemonPlan<'_>) -> Scope
     }
 }
 
-/// The upkeep of a site, with `tidy`.
+/// The upkeep of a site without rules.
 fn upkeep_of(tidy: bool) -> Option<Upkeep<'static>>
-    ensures rule { option_map rule_of result ≡ upkeep_rule tidy }
-    ensures often { IfSome (option_map rule_of result) (λ rule. 0 < rule.after) }
+    ensures rule { option_map rule_of result ≡ upkeep_rule tidy None }
+    ensures often { IfSome (option_map rule_of result) (λ rule. (0 < rule.after) × (0 < rule.later)) }
 {
     if tidy {
-        Some(Upkeep {
-            codes: &COUNTED,
-            after: 64,
-            requests: &[&RAISE_AUTO, &TIDY],
-            full: &FULL,
-        })
+        Some(slow_upkeep(&[&STAT, &RAISE_AUTO, &TIDY], &FULL))
     } else {
-        None
+        Some(slow_upkeep(&[&STAT], &[]))
     }
 }

@@ -6,7 +6,7 @@ use Rattle.hub.specs.declared.ports.Seen.TheVariants.{ReadFromPeer}
 use Rattle.hub.specs.Peers.{carried_out}
 use Rattle.std.proofs.Common.{[], ◌∷◌}
 use Rattle.hub.proofs.Goings.{moved_on, rested_peer}
-use Rattle.hub.proofs.Leading.{tells_then}
+use Rattle.hub.proofs.Tellings.{tells_then}
 use Rattle.hub.proofs.fetching.hear.Goals as goal
 
 pub returns-then-wants_read-clause-turned : goal.returns-then-wants_read-clause-turned

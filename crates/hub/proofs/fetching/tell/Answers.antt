@@ -6,7 +6,7 @@ use Rattle.hub.specs.declared.ports.PeerNews.TheVariants.{Write as MayWrite}
 use Rattle.hub.specs.declared.ports.Seen.TheVariants.{WroteToPeer}
 use Rattle.hub.specs.Peers.{carried_out}
 use Rattle.hub.proofs.Goings.{rested_peer, wrote}
-use Rattle.hub.proofs.Leading.{tells_then}
+use Rattle.hub.proofs.Tellings.{tells_then}
 use Rattle.hub.proofs.fetching.tell.Goals as goal
 
 pub returns-else-has_to_write-clause-turned : goal.returns-else-has_to_write-clause-turned

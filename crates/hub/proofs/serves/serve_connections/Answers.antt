@@ -19,12 +19,13 @@ loop-turns-init g c = record {
 pub loop-turns-preserved-in-Some : goal.loop-turns-preserved-in-Some
 loop-turns-preserved-in-Some g c = record {
   led = λ s stands. led_kept (behind_doors g.M.Settling.plain g.M.Settling.through g.M.Settling.is_settled g.M.Settling.settled) (option_map rule_of c.args.upkeep) c.args.scope (g.M.Settling.stands c.loop-turns.machine)
-      (g.M.Settling.stands c.keep_up-more.new.machine) s c.loop-turns.connections c.loop-turns.peers c.loop-turns.tally c.pay.new.self
-      (g.P.Ports.seen c.args.ports.now) (g.P.Ports.seen c.loop-turns.ports) c.loop-turns.turns (rule_of c.in-Some.upkeep) c.keep_up-more.result
-      (c.loop-turns.invariant.led s stands) (sym c.in-Some.ensures.due) c.pay.ensures c.keep_up-more.ensures.asked;
+      (g.M.Settling.stands c.keep_up-last.new.machine) s c.loop-turns.connections c.loop-turns.peers c.loop-turns.tally c.pay.new.self
+      (g.P.Ports.seen c.args.ports.now) (g.P.Ports.seen c.loop-turns.ports) (g.P.Ports.seen c.keep_up-last.new.ports) c.loop-turns.turns (rule_of c.in-Some.upkeep) c.keep_up-last.result.is_full
+      c.keep_up-last.result.is_idle
+      (c.loop-turns.invariant.led s stands) (sym c.in-Some.ensures.due) c.pay.ensures c.keep_up-last.ensures.asked;
   slots = c.loop-turns.invariant.slots;
   room = c.loop-turns.invariant.room;
-  opening = c.keep_up-more.ensures.opening ∙ c.loop-turns.invariant.opening;
+  opening = c.keep_up-last.ensures.opening ∙ c.loop-turns.invariant.opening;
 }
 
 pub loop-turns-preserved : goal.loop-turns-preserved

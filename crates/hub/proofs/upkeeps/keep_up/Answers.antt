@@ -4,25 +4,28 @@ use Rattle.hub.proofs.Serving.{asked_none, asked_more, one_more, all_of}
 use Rattle.hub.proofs.upkeeps.keep_up.Goals as goal
 
 pub loop-request-init : goal.loop-request-init
-loop-request-init g c = record { asked = λ s f. asked_none g.M.Settling.plain (g.M.Settling.stands c.args.machine.now) c.args.upkeep.full.now s f; opening = refl }
+loop-request-init g c = record { asked = λ s f. asked_none g.M.Settling.plain (g.M.Settling.stands c.args.machine.now) c.args.upkeep.full.now c.args.upkeep.idle.now (g.P.Ports.seen c.args.ports.now) s f; opening = refl }
 
 pub loop-request-preserved : goal.loop-request-preserved
 loop-request-preserved g c =
     let requests = c.args.upkeep.requests.now in
     let place = c.loop-request.request-index in
     record {
-      asked = λ s f. subst (λ bodies. Asked g.M.Settling.plain (g.M.Settling.stands c.ask-more.new.machine) bodies c.args.upkeep.full.now c.ask-more.result s)
+      asked = λ s f. subst (λ bodies. Asked g.M.Settling.plain (g.M.Settling.stands c.ask-last.new.machine) bodies c.args.upkeep.full.now c.args.upkeep.idle.now c.ask-last.result.is_full c.ask-last.result.is_idle
+          (g.P.Ports.seen c.args.ports.now) (g.P.Ports.seen c.ask-last.new.ports) s)
           (sym (one_more requests place record { ref_ptr = (0, 0); now = [] } c.loop-request-test.true))
-          (asked_more g.M.Settling.plain (g.M.Settling.stands c.loop-request.machine) (g.M.Settling.stands c.ask-more.new.machine)
+          (asked_more g.M.Settling.plain (g.M.Settling.stands c.loop-request.machine) (g.M.Settling.stands c.ask-last.new.machine)
           (take place (map (λ r. r.now) requests)) (get_or requests place record { ref_ptr = (0, 0); now = [] }).now c.args.upkeep.full.now
-          c.loop-request.more c.ask-more.result s
-          (c.loop-request.invariant.asked s f) c.ask-more.ensures.asked);
-      opening = c.ask-more.ensures.opening ∙ c.loop-request.invariant.opening;
+          c.args.upkeep.idle.now c.loop-request.last.is_full c.loop-request.last.is_idle c.ask-last.result.is_full c.ask-last.result.is_idle
+          (g.P.Ports.seen c.args.ports.now) (g.P.Ports.seen c.loop-request.ports) (g.P.Ports.seen c.ask-last.new.ports) s
+          (c.loop-request.invariant.asked s f) c.ask-last.ensures.asked);
+      opening = c.ask-last.ensures.opening ∙ c.loop-request.invariant.opening;
     }
 
 pub returns-clause-asked : goal.returns-clause-asked
 returns-clause-asked g c =
-    λ s f. subst (λ bodies. Asked g.M.Settling.plain (g.M.Settling.stands c.loop-request.machine) bodies c.args.upkeep.full.now c.loop-request.more s)
+    λ s f. subst (λ bodies. Asked g.M.Settling.plain (g.M.Settling.stands c.loop-request.machine) bodies c.args.upkeep.full.now c.args.upkeep.idle.now c.loop-request.last.is_full
+    c.loop-request.last.is_idle (g.P.Ports.seen c.args.ports.now) (g.P.Ports.seen c.loop-request.ports) s)
     (all_of c.args.upkeep.requests.now c.loop-request.request-index c.loop-request-test.false) (c.loop-request.invariant.asked s f)
 
 pub returns-clause-opening : goal.returns-clause-opening

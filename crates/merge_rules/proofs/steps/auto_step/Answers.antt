@@ -4,7 +4,8 @@ use Rattle.state_dag.specs.Table.{is_slot}
 use Rattle.session_core.specs.Machine.{SiteStands}
 use Rattle.merge_rules.specs.declared.steps.AutoEnd.TheVariants.{Single, Refused, Wide, Unmerged}
 use Rattle.merge_rules.specs.Auto.{auto_step}
-use Rattle.merge_rules.specs.Steps.{Ends, SettledAs}
+use Rattle.join_rules.specs.Settlings.{SettledAs}
+use Rattle.merge_rules.specs.Steps.{Ends}
 use Rattle.merge_rules.proofs.StepLaws.{none-at, leaves-at, settled-at, values-may-be-merged, step-refused, step-wide, step-unmerged, step-joins, ended-so, ended-short}
 use Rattle.merge_rules.proofs.steps.auto_step.Goals as goal
 

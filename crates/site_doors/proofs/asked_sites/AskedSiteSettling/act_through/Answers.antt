@@ -1,6 +1,7 @@
 use Rattle.std.proofs.Common.{◌≡◌, [], sym, ◌∙◌}
 use Rattle.tardis_base.specs.Plain.{Event}
-use Rattle.site_lives.specs.Acquainted.{Acquainted, acquainted_machine}
+use Rattle.site_lives.specs.Acquainted.{Acquainted}
+use Rattle.rest_site.specs.Ruled.{ruled_machine}
 use Rattle.rest_site.specs.Stands.{AcquaintedStands}
 use Rattle.hub.specs.Doors.{seen_through}
 use Rattle.site_doors.specs.Rules.{site_doors, told_at}
@@ -13,9 +14,9 @@ returns-then-comes_in-clause-reply c =
     let old = c.args.self.now.site in
     let out = c.act.new.out in
     on_ok c.act.result
-    ((s : Acquainted) → AcquaintedStands old s → out ≡ acquainted_machine.reply s e)
-    ((s : Acquainted) → AcquaintedStands old s → out ≡ (seen_through acquainted_machine site_doors c.args.door).reply s e)
-    c.act.ensures.reply (in-reply acquainted_machine site_doors AcquaintedStands c.args.door e old old out (sym c.comes_in.ensures ∙ c.if-comes_in.true))
+    ((s : Acquainted) → AcquaintedStands old s → out ≡ ruled_machine.reply s e)
+    ((s : Acquainted) → AcquaintedStands old s → out ≡ (seen_through ruled_machine site_doors c.args.door).reply s e)
+    c.act.ensures.reply (in-reply ruled_machine site_doors AcquaintedStands c.args.door e old old out (sym c.comes_in.ensures ∙ c.if-comes_in.true))
 
 pub returns-then-comes_in-clause-step : goal.returns-then-comes_in-clause-step
 returns-then-comes_in-clause-step c =
@@ -23,15 +24,15 @@ returns-then-comes_in-clause-step c =
     let old = c.args.self.now.site in
     let new = c.act.new.self in
     on_ok c.act.result
-    ((s : Acquainted) → AcquaintedStands old s → AcquaintedStands new (acquainted_machine.step s e))
-    ((s : Acquainted) → AcquaintedStands old s → AcquaintedStands new ((seen_through acquainted_machine site_doors c.args.door).step s e))
-    c.act.ensures.step (in-step acquainted_machine site_doors AcquaintedStands c.args.door e old new [] (sym c.comes_in.ensures ∙ c.if-comes_in.true))
+    ((s : Acquainted) → AcquaintedStands old s → AcquaintedStands new (ruled_machine.step s e))
+    ((s : Acquainted) → AcquaintedStands old s → AcquaintedStands new ((seen_through ruled_machine site_doors c.args.door).step s e))
+    c.act.ensures.step (in-step ruled_machine site_doors AcquaintedStands c.args.door e old new [] (sym c.comes_in.ensures ∙ c.if-comes_in.true))
 
 pub returns-then-comes_in-clause-sure : goal.returns-then-comes_in-clause-sure
 returns-then-comes_in-clause-sure c = λ sure.
     let e : Event = (c.args.actor, c.args.request.now) in
     let old = c.args.self.now.site in
-    c.act.ensures.sure (in-sure acquainted_machine site_doors AcquaintedStands c.args.door e old old [] (sym c.comes_in.ensures ∙ c.if-comes_in.true) sure)
+    c.act.ensures.sure (in-sure ruled_machine site_doors AcquaintedStands c.args.door e old old [] (sym c.comes_in.ensures ∙ c.if-comes_in.true) sure)
 
 pub returns-else-comes_in-clause-reply : goal.returns-else-comes_in-clause-reply
 returns-else-comes_in-clause-reply c =
@@ -40,8 +41,8 @@ returns-else-comes_in-clause-reply c =
     let out = c.answer_at.new.out in
     on_ok c.answer_at.result
     ((s : Acquainted) → AcquaintedStands old s → out ≡ told_at c.args.door s c.args.request.now)
-    ((s : Acquainted) → AcquaintedStands old s → out ≡ (seen_through acquainted_machine site_doors c.args.door).reply s e)
-    c.answer_at.ensures.told (out-reply acquainted_machine site_doors AcquaintedStands c.args.door e old old out (sym c.comes_in.ensures ∙ c.if-comes_in.false))
+    ((s : Acquainted) → AcquaintedStands old s → out ≡ (seen_through ruled_machine site_doors c.args.door).reply s e)
+    c.answer_at.ensures.told (out-reply ruled_machine site_doors AcquaintedStands c.args.door e old old out (sym c.comes_in.ensures ∙ c.if-comes_in.false))
 
 pub returns-else-comes_in-clause-step : goal.returns-else-comes_in-clause-step
 returns-else-comes_in-clause-step c =
@@ -49,11 +50,11 @@ returns-else-comes_in-clause-step c =
     let old = c.args.self.now.site in
     on_ok c.answer_at.result
     ((s : Acquainted) → AcquaintedStands old s → c.answer_at.new.out ≡ told_at c.args.door s c.args.request.now)
-    ((s : Acquainted) → AcquaintedStands old s → AcquaintedStands old ((seen_through acquainted_machine site_doors c.args.door).step s e))
-    c.answer_at.ensures.told (λ f. out-step acquainted_machine site_doors AcquaintedStands c.args.door e old old [] (sym c.comes_in.ensures ∙ c.if-comes_in.false))
+    ((s : Acquainted) → AcquaintedStands old s → AcquaintedStands old ((seen_through ruled_machine site_doors c.args.door).step s e))
+    c.answer_at.ensures.told (λ f. out-step ruled_machine site_doors AcquaintedStands c.args.door e old old [] (sym c.comes_in.ensures ∙ c.if-comes_in.false))
 
 pub returns-else-comes_in-clause-sure : goal.returns-else-comes_in-clause-sure
 returns-else-comes_in-clause-sure c = λ sure.
     let e : Event = (c.args.actor, c.args.request.now) in
     let old = c.args.self.now.site in
-    c.answer_at.ensures.sure (out-sure acquainted_machine site_doors AcquaintedStands c.args.door e old old [] (sym c.comes_in.ensures ∙ c.if-comes_in.false) sure)
+    c.answer_at.ensures.sure (out-sure ruled_machine site_doors AcquaintedStands c.args.door e old old [] (sym c.comes_in.ensures ∙ c.if-comes_in.false) sure)

@@ -1,0 +1,20 @@
+//! Laws of the values that rules give, and of requests to join. Each function is empty, and its contract is the law.
+
+ghost use Rattle.join_rules.specs.Laws.{SidesMayBeExchanged, OthersAreAsBefore, JoinsKeepSound, JoinsAddWhatLasts, WhatLastsOfJoinsIsSeen, WhatLastsOfJoinsFits, NothingElseJoins};
+
+/// The value that a rule gives is the same with the sides exchanged.
+pub fn sides_may_be_exchanged()
+    ensures { SidesMayBeExchanged }
+{}
+
+/// A request to join leaves adds one record at most, and that is what lasts of it, as it is seen between the sites before and
+/// behind it: it can be spelled, and may be taken back. A sound site is sound behind it. Where nothing is joined, nothing changes; and
+/// all other requests are answered as without it.
+pub fn joins_are_records()
+    ensures sound { JoinsKeepSound }
+    ensures adds { JoinsAddWhatLasts }
+    ensures seen { WhatLastsOfJoinsIsSeen }
+    ensures fits { WhatLastsOfJoinsFits }
+    ensures nothing { NothingElseJoins }
+    ensures others { OthersAreAsBefore }
+{}

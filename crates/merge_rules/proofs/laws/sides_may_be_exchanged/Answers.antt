@@ -1,5 +1,0 @@
-use Rattle.merge_rules.proofs.Exchanges.{exchanged}
-use Rattle.merge_rules.proofs.laws.sides_may_be_exchanged.Goals as goal
-
-pub returns : goal.returns
-returns c = exchanged

@@ -1,6 +1,0 @@
-use Rattle.std.proofs.Common.{ap, ◌∙◌, ◌==◌, length}
-use Rattle.merge_rules.proofs.Partings.{over}
-use Rattle.merge_rules.proofs.parts.Parts.is_over.Goals as goal
-
-pub returns : goal.returns
-returns c = over c.self.inside.left c.is_none.result c.is_none.ensures ∙ ap (λ ps. length ps == 0) c.self.view_is
