@@ -417,6 +417,17 @@ class Words(unittest.TestCase):
             ask(first, STAT)
             self.assertEqual(self.leaves(second), [state(1, 2), state(1, 4)])
 
+    def test_a_set_goes_by_what_both_sides_began_with(self):
+        """What one side removed goes, and what the other added stays."""
+        server = Server(self.address, ("--rules", "cart/=set3"))
+        self.addCleanup(server.end)
+        with server.connect() as first, server.connect() as second:
+            ask(first, OPEN, BEGIN, put(b"cart/1", b"bread,milk"), COMMIT, CLOSE)
+            for connection, value in ((first, b"milk"), (second, b"bread,eggs,milk")):
+                ask(connection, OPEN, b"\x02\x03" + state(1, 1), get(b"cart/1"), put(b"cart/1", value), COMMIT, CLOSE)
+            self.assertEqual(self.leaves(first), [state(1, 4)])
+            self.assertEqual(self.read_anew(second, b"cart/1"), b"eggs,milk")
+
     def test_many_forks_are_joined_whatever_comes_at_once(self):
         server = Server(self.address, ("--rules", "=last", "--tidy"))
         self.addCleanup(server.end)
