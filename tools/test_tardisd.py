@@ -647,6 +647,23 @@ class Capacity(unittest.TestCase):
         self.assertEqual([reply[0] for reply in told[:2]], [8, 8])
         self.assertEqual(told[2], full(3))
 
+    def test_memory_that_the_system_bounds_is_told_as_wanting(self):
+        """What would take more is answered so, changes nothing, and all is read on (`tools/test_memory.py` has more of it)."""
+        server = self.start()
+        subprocess.run(["prlimit", "--pid", str(server.process.pid), "--as=67108864"], check=True)
+        connection = self.connect(server)
+        self.assertEqual(ask(connection, OPEN_FOLLOWING), [OPENED])
+        taken = 0
+        for place in range(4000):
+            told = ask(connection, BEGIN, *[put(b"%d.%d" % (place, n), b"v" * 4096) for n in range(16)], COMMIT)
+            if told[-1][:1] != b"\x08":
+                break
+            taken += 1
+        self.assertIn(b"\x16", [reply[:1] for reply in told])
+        self.assertGreater(taken, 0)
+        ask(connection, ABORT)
+        self.assertEqual(ask(connection, BEGIN, get(b"%d.0" % (taken - 1)), ABORT)[1][9:], b"v" * 4096)
+
     def test_each_number_is_that_of_its_option(self):
         """About tells the limits that a site has."""
         connection = self.connect(self.start("--states", "65000", "--sessions", "4096", "--connections", "1"))
