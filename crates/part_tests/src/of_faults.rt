@@ -4,6 +4,7 @@ use begin_rule::{BeginFault, MergeFault};
 use ceiling_book::{CeilingBack, OpenFault, RaiseFault};
 use end_rule::Branches;
 use merge_txn::TxnFault;
+use state_dag::RowFault;
 use std::alloc::Global;
 use std::fmt::Display;
 use std::process::Abort;
@@ -83,6 +84,15 @@ fn check_ends(rt: &impl Abort, alloc: Global) {
     assert!(rt; says(rt, alloc, &branches, text));
 }
 
+/// Why a row of states doesn't arrive.
+fn check_rows(rt: &impl Abort, alloc: Global) {
+    let text = "there is no site of that number: they are numbered from 1 to the limit";
+    assert!(rt; says(rt, alloc, &RowFault::BadSite, text));
+    assert!(rt; says(rt, alloc, &RowFault::Empty, "there is no state in the row"));
+    let text = "the row would go on past the site's last sequence number";
+    assert!(rt; says(rt, alloc, &RowFault::SeqEnd, text));
+}
+
 /// That memory is wanting, which each fault that may be it says alike.
 fn check_memory(rt: &impl Abort, alloc: Global) {
     let text = "out of memory";
@@ -93,6 +103,7 @@ fn check_memory(rt: &impl Abort, alloc: Global) {
     assert!(rt; says(rt, alloc, &MergeFault::NoMemory, text));
     assert!(rt; says(rt, alloc, &OpenFault::NoMemory, text));
     assert!(rt; says(rt, alloc, &TxnFault::NoMemory, text));
+    assert!(rt; says(rt, alloc, &RowFault::NoMemory, text));
 }
 
 #[test]
@@ -100,5 +111,6 @@ fn faults_say_what_to_do(rt: HostRuntime) {
     check_begins(&rt, rt.alloc());
     check_floors(&rt, rt.alloc());
     check_ends(&rt, rt.alloc());
+    check_rows(&rt, rt.alloc());
     check_memory(&rt, rt.alloc());
 }

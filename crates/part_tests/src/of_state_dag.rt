@@ -1,4 +1,5 @@
-//! That ancestry takes no walk along edges and is that of the edges, and that the slots of collected states are used again.
+//! That ancestry takes no walk along edges and is that of the edges, that the slots of collected states are used again, and
+//! that a row of states arrives in one step.
 
 ghost use Rattle.std.specs.Prelude.{◌≤◌, ◌<◌, length, IsTrue};
 ghost use Rattle.std.specs.List.{list_all};
@@ -6,7 +7,7 @@ ghost use Rattle.state_dag.specs.Table.{is_slot};
 
 use rand_core::utils::NextWord;
 use rand_pcg::Lcg64Xsh32;
-use state_dag::StateDag;
+use state_dag::{RowFault, StateDag};
 use std::process::Abort;
 use tardis_base::{Limits, Slot, StateId};
 
@@ -226,4 +227,45 @@ fn ancestry_in_random_histories_is_that_of_their_edges(rt: HostRuntime) {
         ask_a_random_history(&rt, &mut dag, &mut cells, within);
         drop(dag);
     }
+}
+
+const TWO_SITES: Limits = Limits { sites: 2, ..LIMITS };
+
+/// The kept state that arrived last, and the first of its parents.
+fn last_edge(dag: &StateDag) -> (StateId, StateId) {
+    let slot = dag.last();
+    let parent = match dag.parents(slot).first() {
+        Some(parent) => *parent,
+        None => StateId::ROOT,
+    };
+    (dag.id_of(slot), parent)
+}
+
+/// Whether the kept state that arrived last is this one, below that one.
+fn ends_in(dag: &StateDag, state: StateId, parent: StateId) -> bool {
+    let (last, above) = last_edge(dag);
+    last == state && above == parent
+}
+
+/// 1.1 to 1.3 in a row below the root, 2.1 below the last of them, and 1.4 below that as any state comes.
+#[test]
+fn a_row_of_states_arrives_in_one_step(rt: HostRuntime) {
+    let second = StateId {
+        site: 2,
+        sequence: 1,
+    };
+    let mut dag = StateDag::new(rt.alloc(), &TWO_SITES).expect(&rt, "room");
+    dag.advance(1, 3).expect(&rt, "room");
+    assert!(rt; ends_in(&dag, named(3), named(2)));
+    dag.advance(2, 1).expect(&rt, "room");
+    assert!(rt; ends_in(&dag, second, named(3)));
+    assert_eq!(rt; dag.kept(), 1);
+    lengthen(&rt, &mut dag);
+    assert!(rt; ends_in(&dag, named(4), second));
+    assert!(rt; matches!(dag.advance(3, 1), Err(RowFault::BadSite)));
+    assert!(rt; matches!(dag.advance(1, 0), Err(RowFault::Empty)));
+    assert!(rt; matches!(dag.advance(1, u32::MAX), Err(RowFault::SeqEnd)));
+    assert_eq!(rt; dag.known(), 6);
+    assert_eq!(rt; dag.kept(), 2);
+    drop(dag);
 }

@@ -13,4 +13,5 @@ pub mod Floors
 pub mod Collection
 pub mod Paths
 pub mod Growth
+pub mod Rows
 pub mod Laws

@@ -4,3 +4,4 @@
 
 pub mod landings;
 pub mod orders;
+pub mod rows;

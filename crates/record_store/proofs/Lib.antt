@@ -6,5 +6,4 @@ pub mod Holding
 pub mod Records
 pub mod LatestHolders
 pub mod Collecting
-pub mod Rising
-pub mod Arrivals
+pub mod Next

@@ -3,4 +3,3 @@ pub mod Store
 pub mod Held
 pub mod Stands
 pub mod Answers
-pub mod Images

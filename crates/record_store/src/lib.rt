@@ -3,7 +3,7 @@
 //! What a read, a write and a new state mean is stated in `docs/MODEL.md`.
 #![tactic(auto)]
 
-ghost use Rattle.std.specs.Prelude.{◌≡◌, true, ◌+◌, ◌-◌, ◌≤◌, ◌||◌, ℕ, Bool, List, [], ◌∷◌, length, map, take, Option, Some, None, slice_get, unwrap_or};
+ghost use Rattle.std.specs.Prelude.{◌≡◌, true, ◌+◌, ◌-◌, ◌<◌, ◌≤◌, ◌||◌, ℕ, Bool, List, [], ◌∷◌, length, map, take, Option, Some, None, slice_get, unwrap_or};
 ghost use Rattle.std.specs.Prelude.{IsTrue, IsSome, IfOk, IfSome, OnOk, OnErr};
 ghost use Rattle.std.specs.List.{list_all};
 ghost use Rattle.std.specs.Option.{option_map, option_and_then};
@@ -26,9 +26,6 @@ ghost use Rattle.version_list.specs.Reads.{found};
 ghost use Rattle.record_store.specs.Stands.{StoreStands, holds_key};
 ghost use Rattle.record_store.specs.Answers.{AddedIn, IsSameStore, MayArrive, StandsAlone, HasReads, read_write, write_found};
 
-mod images;
-
-pub use images::PartsFault;
 use state_dag::StateDag;
 use std::alloc::Global;
 use std::hash::RandomState;
@@ -183,9 +180,9 @@ impl RecordStore {
     /// What is read at the kept states stays: each key that the state held is held by its stand-in from then on, with the
     /// version that was read there before. The slot names no state any more; a state that is added may get it.
     ///
-    /// It takes no memory. The cost is that of `detach`, and for each key that the state held that of a look-up, of binary
-    /// searches among its versions and of moving those between the state and its stand-in, or, where one goes, those before it
-    /// or behind it, whichever are fewer.
+    /// It takes no memory. The cost is that of `detach`, and of `promote` (`version_list`): it grows with the number of the keys
+    /// that the state held, or, where no kept state arrived between it and its stand-in, of those that the stand-in held, if
+    /// these are fewer; for each with a look-up and with moves among its versions.
     pub fn collect(&mut self, slot: Slot) -> Slot
         requires { IsSome (shared_slot self.old.table slot) }
         ensures stand_in { shared_slot self.old.table slot ≡ Some result }
@@ -209,7 +206,8 @@ impl RecordStore {
     {
         match self.dag.shared_stand_in(slot) {
             Some(heir) => {
-                self.versions.promote(&self.dag, slot, heir);
+                let next = is_next(&self.dag, slot, heir);
+                self.versions.promote(&self.dag, slot, heir, next);
                 self.dag.detach(slot)
             },
             None => unreachable!(),
@@ -356,6 +354,19 @@ impl RecordStore {
             }
         }
         slots
+    }
+}
+
+/// Whether no kept state arrived between those at the two slots, the one after the other. The cost grows with the logarithm of
+/// the number of kept states.
+fn is_next(dag: &StateDag, slot: Slot, other: Slot) -> bool
+    requires { IsTrue (is_slot dag.now slot) }
+    ensures { result ≡ true → (s : Slot) → IsTrue (is_kept_at dag.now s) → arrival_at dag.now slot < arrival_at dag.now s
+        → arrival_at dag.now other ≤ arrival_at dag.now s }
+{
+    match dag.kept_after(Some(slot)) {
+        Some(next) => next == other,
+        None => false,
     }
 }
 

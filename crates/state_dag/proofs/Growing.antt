@@ -1,5 +1,5 @@
 -- A table that has grown by one state stands for the history with that state; and why it doesn't grow.
-use Rattle.std.proofs.Common.{◌≡◌, ℕ, ◌+◌, ◌-◌, ◌≤◌, Bool, true, eqb, ltb, List, [], ◌∷◌, length, map, find, slice_get, slice_set, Option, Some, None}
+use Rattle.std.proofs.Common.{◌≡◌, ℕ, ◌+◌, ◌-◌, ◌≤◌, Bool, eqb, ltb, List, [], ◌∷◌, length, map, find, slice_get, slice_set, Option, Some, None}
 use Rattle.std.proofs.Common.{is_none, IsTrue, IsFalse, inl, inr, refl, sym, ap, subst, ◌∙◌, eq-eqb, arith, length-append}
 use Rattle.std.specs.Prelude.{nat_le, unwrap_or}
 use Rattle.std.specs.List.{list_any, list_all, range_with_len}

@@ -49,3 +49,7 @@ pub mod Heirs
 pub mod SlotOrders
 pub mod Lent
 pub mod KeptTests
+pub mod RowHistories
+pub mod RowTables
+pub mod RowSteps
+pub mod RowMemory

@@ -8,4 +8,5 @@ pub mod Promotes
 pub mod Handed
 pub mod Chunks
 pub mod Moves
-pub mod Noting
+pub mod Seated
+pub mod Joins

@@ -14,40 +14,40 @@ use Rattle.version_list.specs.declared.histories.Version.{Version}
 use Rattle.version_list.specs.Lists.{Lists, Listed, listed_in, versions_in}
 use Rattle.version_list.specs.Versions.{Chunks, same_slot, is_key_in, has_version_at, AreNoted}
 use Rattle.version_list.specs.Notes.{chunks_for}
-use Rattle.version_list.specs.Promoted.{promoted, promoted_if, moves}
+use Rattle.version_list.specs.Promoted.{moves}
+use Rattle.version_list.specs.Joined.{joined, joined_if}
 use Rattle.version_list.proofs.Noted.{slots-from_same, any-push}
-use Rattle.version_list.proofs.Promotes.{promoted-none}
-use Rattle.version_list.proofs.Handed.{none-left, others-have, other-has}
+use Rattle.version_list.proofs.Joins.{left-joined, joined-none, others-joined, other-joined}
 use Rattle.version_list.proofs.Chunks.{in-both}
 
-module _ (arrival : Slot → ℕ) (from to : Slot) (earlier : arrival from < arrival to) where
+module _ (arrival : Slot → ℕ) (from to : Slot) (differ : arrival from ≡ arrival to → ⊥) where
   pub apart : same_slot from to ≡ false
-  apart = false_from_ne_true (same_slot from to) (λ t. let same = ap arrival (slots-from_same from to t) in absurd (omega (arith, same, earlier)))
+  apart = false_from_ne_true (same_slot from to) (λ t. differ (ap arrival (slots-from_same from to t)))
 
   pub turned : same_slot to from ≡ false
-  turned = false_from_ne_true (same_slot to from) (λ t. let same = ap arrival (slots-from_same to from t) in absurd (omega (arith, same, earlier)))
+  turned = false_from_ne_true (same_slot to from) (λ t. differ (sym (ap arrival (slots-from_same to from t))))
 
   -- none is left at the one state
-  pub left-at : (vs : List Version) → has_version_at from (promoted arrival from to vs) ≡ false
-  left-at vs = none-left arrival from to vs apart turned
+  pub left-at : (vs : List Version) → has_version_at from (joined arrival from to vs) ≡ false
+  left-at vs = left-joined arrival from to apart turned vs
 
   -- once it is promoted nothing is left to be
-  again : (vs : List Version) → promoted arrival from to (promoted arrival from to vs) ≡ promoted arrival from to vs
-  again vs = promoted-none arrival from to (promoted arrival from to vs) (left-at vs)
+  again : (vs : List Version) → joined arrival from to (joined arrival from to vs) ≡ joined arrival from to vs
+  again vs = joined-none arrival from to apart turned (joined arrival from to vs) (left-at vs)
 
-  still : (vs : List Version) → moves from to (promoted arrival from to vs) ≡ false
-  still vs = ap (λ b. b && not (has_version_at to (promoted arrival from to vs))) (left-at vs)
+  still : (vs : List Version) → moves from to (joined arrival from to vs) ≡ false
+  still vs = ap (λ b. b && not (has_version_at to (joined arrival from to vs))) (left-at vs)
 
   -- promoted among the first, and then among the rest
-  pub promoted-step : (a b : Bool) (vs ws : List Version) → ws ≡ promoted_if a arrival from to vs → promoted_if b arrival from to ws
-      ≡ promoted_if (a || b) arrival from to vs
-  promoted-step true true vs ws is = ap (promoted arrival from to) is ∙ again vs
-  promoted-step true false vs ws is = is
-  promoted-step false true vs ws is = ap (promoted arrival from to) is
-  promoted-step false false vs ws is = is
+  pub joined-step : (a b : Bool) (vs ws : List Version) → ws ≡ joined_if a arrival from to vs → joined_if b arrival from to ws
+      ≡ joined_if (a || b) arrival from to vs
+  joined-step true true vs ws is = ap (joined arrival from to) is ∙ again vs
+  joined-step true false vs ws is = is
+  joined-step false true vs ws is = ap (joined arrival from to) is
+  joined-step false false vs ws is = is
 
   -- and so it is with those whose versions moved
-  pub kept-step : (m a b : Bool) (vs ws : List Version) → ws ≡ promoted_if a arrival from to vs →
+  pub kept-step : (m a b : Bool) (vs ws : List Version) → ws ≡ joined_if a arrival from to vs →
       ((m || (a && moves from to vs)) || (b && moves from to ws)) ≡ (m || ((a || b) && moves from to vs))
   kept-step true a b vs ws is = refl
   kept-step false true true vs ws is = ap (λ n. moves from to vs || n) (ap (moves from to) is ∙ still vs) ∙ or-none (moves from to vs)
@@ -63,11 +63,11 @@ module _ (arrival : Slot → ℕ) (from to : Slot) (earlier : arrival from < arr
   kept-step false false b vs ws is = ap (λ n. b && n) (ap (moves from to) is)
 
   -- one key's versions are promoted, and no others
-  pub one-promoted : (old new : Lists) (key : List ℕ) → versions_in new key ≡ promoted arrival from to (versions_in old key) →
+  pub one-joined : (old new : Lists) (key : List ℕ) → versions_in new key ≡ joined arrival from to (versions_in old key) →
       ((k : List ℕ) → bytes_eq key k ≡ false → listed_in new k ≡ listed_in old k) →
-      (k : List ℕ) → versions_in new k ≡ promoted_if (bytes_eq k key) arrival from to (versions_in old k)
-  one-promoted old new key own others k = elim (cases_Bool (bytes_eq k key)) [
-    | inl t ↦ rw t (subst (λ j. versions_in new j ≡ promoted arrival from to (versions_in old j)) (sym ((bytes_eq-Decides k key).0 t)) own)
+      (k : List ℕ) → versions_in new k ≡ joined_if (bytes_eq k key) arrival from to (versions_in old k)
+  one-joined old new key own others k = elim (cases_Bool (bytes_eq k key)) [
+    | inl t ↦ rw t (subst (λ j. versions_in new j ≡ joined arrival from to (versions_in old j)) (sym ((bytes_eq-Decides k key).0 t)) own)
     | inr f ↦ rw f (ap (λ o. option_map_or (λ (l : Listed). l.versions) o []) (others k (nat_list_eq_equiv.symm key k ∙ f)))
   ]
 
@@ -135,12 +135,12 @@ among-one k xs x = any-push (bytes_eq k) xs (x ∷ []) ∙ ap (λ b. is_key_amon
     either true = refl
     either false = refl
 
-module _ (arrival : Slot → ℕ) (from to : Slot) (earlier : arrival from < arrival to) (old new : Lists) (x : List ℕ)
-    (own : versions_in new x ≡ promoted arrival from to (versions_in old x))
+module _ (arrival : Slot → ℕ) (from to : Slot) (differ : arrival from ≡ arrival to → ⊥) (old new : Lists) (x : List ℕ)
+    (own : versions_in new x ≡ joined arrival from to (versions_in old x))
     (others : (k : List ℕ) → bytes_eq x k ≡ false → listed_in new k ≡ listed_in old k) (xs : List (List ℕ)) (i : ℕ) (lt : i < length xs)
     (here : get_or xs i x ≡ x) where
-  after : (k : List ℕ) → versions_in new k ≡ promoted_if (bytes_eq k x) arrival from to (versions_in old k)
-  after = one-promoted arrival from to earlier old new x own others
+  after : (k : List ℕ) → versions_in new k ≡ joined_if (bytes_eq k x) arrival from to (versions_in old k)
+  after = one-joined arrival from to differ old new x own others
 
   split : (k : List ℕ) → is_key_among k (drop i xs) ≡ (bytes_eq k x || is_key_among k (drop (ℕ.suc i) xs))
   split k = ap (is_key_among k) (at-place xs i x lt here)
@@ -149,15 +149,15 @@ module _ (arrival : Slot → ℕ) (from to : Slot) (earlier : arrival from < arr
   next = omega arith
 
   -- one key fewer is left to be promoted
-  pub step-promoted : (k : List ℕ) → promoted_if (is_key_among k (drop (ℕ.suc i) xs)) arrival from to (versions_in new k)
-      ≡ promoted_if (is_key_among k (drop i xs)) arrival from to (versions_in old k)
-  step-promoted k =
-      promoted-step arrival from to earlier (bytes_eq k x) (is_key_among k (drop (ℕ.suc i) xs)) (versions_in old k) (versions_in new k) (after k)
-      ∙ ap (λ b. promoted_if b arrival from to (versions_in old k)) (sym (split k))
+  pub step-joined : (k : List ℕ) → joined_if (is_key_among k (drop (ℕ.suc i) xs)) arrival from to (versions_in new k)
+      ≡ joined_if (is_key_among k (drop i xs)) arrival from to (versions_in old k)
+  step-joined k =
+      joined-step arrival from to differ (bytes_eq k x) (is_key_among k (drop (ℕ.suc i) xs)) (versions_in old k) (versions_in new k) (after k)
+      ∙ ap (λ b. joined_if b arrival from to (versions_in old k)) (sym (split k))
 
-  pub step-next : (k : List ℕ) → promoted_if (is_key_among k (drop (i + 1) xs)) arrival from to (versions_in new k)
-      ≡ promoted_if (is_key_among k (drop i xs)) arrival from to (versions_in old k)
-  step-next k = ap (λ n. promoted_if (is_key_among k (drop n xs)) arrival from to (versions_in new k)) next ∙ step-promoted k
+  pub step-next : (k : List ℕ) → joined_if (is_key_among k (drop (i + 1) xs)) arrival from to (versions_in new k)
+      ≡ joined_if (is_key_among k (drop i xs)) arrival from to (versions_in old k)
+  step-next k = ap (λ n. joined_if (is_key_among k (drop n xs)) arrival from to (versions_in new k)) next ∙ step-joined k
 
   step-kept : (b : Bool) → moves from to (versions_in old x) ≡ b → (k : List ℕ) →
       ((is_key_among k (take i xs) || (bytes_eq k x && b)) || (is_key_among k (drop (ℕ.suc i) xs) && moves from to (versions_in new k)))
@@ -165,7 +165,7 @@ module _ (arrival : Slot → ℕ) (from to : Slot) (earlier : arrival from < arr
   step-kept b is k =
       ap (λ c. (is_key_among k (take i xs) || c) || (is_key_among k (drop (ℕ.suc i) xs) && moves from to (versions_in new k)))
       (sym (moving from to (versions_in old) k x b is))
-      ∙ kept-step arrival from to earlier (is_key_among k (take i xs)) (bytes_eq k x) (is_key_among k (drop (ℕ.suc i) xs)) (versions_in old k)
+      ∙ kept-step arrival from to differ (is_key_among k (take i xs)) (bytes_eq k x) (is_key_among k (drop (ℕ.suc i) xs)) (versions_in old k)
       (versions_in new k) (after k)
       ∙ ap (λ c. is_key_among k (take i xs) || (c && moves from to (versions_in old k))) (sym (split k))
 
@@ -196,37 +196,37 @@ module _ (arrival : Slot → ℕ) (from to : Slot) (earlier : arrival from < arr
 
 -- ===== All keys of a state
 
-module _ (arrival : Slot → ℕ) (from to : Slot) (earlier : arrival from < arrival to) where
+module _ (arrival : Slot → ℕ) (from to : Slot) (differ : arrival from ≡ arrival to → ⊥) where
   -- where nothing is at the one state nothing is promoted
-  pub promoted-where : (b : Bool) (vs : List Version) → b ≡ has_version_at from vs → promoted_if b arrival from to vs ≡ promoted arrival from to vs
-  promoted-where true vs is = refl
-  promoted-where false vs is = sym (promoted-none arrival from to vs (sym is))
+  pub joined-where : (b : Bool) (vs : List Version) → b ≡ has_version_at from vs → joined_if b arrival from to vs ≡ joined arrival from to vs
+  joined-where true vs is = refl
+  joined-where false vs is = sym (joined-none arrival from to (apart arrival from to differ) (turned arrival from to differ) vs (sym is))
 
   -- the keys of the one state, and what of them moved is noted for the other
-  pub noted-promoted : (old new : Lists) (es fs : List (Slot × Chunks)) (moved : Chunks) →
-      AreNoted old es → ((k : List ℕ) → versions_in new k ≡ promoted arrival from to (versions_in old k)) →
+  pub noted-joined : (old new : Lists) (es fs : List (Slot × Chunks)) (moved : Chunks) →
+      AreNoted old es → ((k : List ℕ) → versions_in new k ≡ joined arrival from to (versions_in old k)) →
       ((k : List ℕ) → is_key_in k moved ≡ (has_version_at from (versions_in old k) && moves from to (versions_in old k))) →
       chunks_for from fs ≡ [] → chunks_for to fs ≡ chunks_for to es ++ moved →
       ((q : Slot) → (q ≡ from → ⊥) → (q ≡ to → ⊥) → chunks_for q fs ≡ chunks_for q es) →
       AreNoted new fs
-  noted-promoted old new es fs moved noted all kept left given others = λ q k.
+  noted-joined old new es fs moved noted all kept left given others = λ q k.
       let vs = versions_in old k in
-      let now : has_version_at q (versions_in new k) ≡ has_version_at q (promoted arrival from to vs) = ap (has_version_at q) (all k) in
+      let now : has_version_at q (versions_in new k) ≡ has_version_at q (joined arrival from to vs) = ap (has_version_at q) (all k) in
       elim (cases_Bool (same_slot to q)) [
         | inl t ↦
             subst (λ s. is_key_in k (chunks_for s fs) ≡ has_version_at s (versions_in new k)) (slots-from_same to q t)
             (ap (is_key_in k) given ∙ in-both k (chunks_for to es) moved ∙ ap₂ (λ a b. a || b) (noted to k) (kept k)
             ∙ both (has_version_at to vs) (has_version_at from vs)
-            ∙ sym (other-has arrival from to vs (apart arrival from to earlier) (turned arrival from to earlier)) ∙ sym (ap (has_version_at to) (all k)))
+            ∙ sym (other-joined arrival from to (apart arrival from to differ) (turned arrival from to differ) vs) ∙ sym (ap (has_version_at to) (all k)))
         | inr n ↦ elim (cases_Bool (same_slot from q)) [
           | inl t ↦
               subst (λ s. is_key_in k (chunks_for s fs) ≡ has_version_at s (versions_in new k)) (slots-from_same from q t)
-              (ap (is_key_in k) left ∙ sym (left-at arrival from to earlier vs) ∙ sym (ap (has_version_at from) (all k)))
+              (ap (is_key_in k) left ∙ sym (left-at arrival from to differ vs) ∙ sym (ap (has_version_at from) (all k)))
           | inr m ↦
               let other = others q (λ e. both_ways (same_slot from q) m (subst (λ s. same_slot from s ≡ true) (sym e) (eq-eqb from.0 from.0 refl)))
               (λ e. both_ways (same_slot to q) n (subst (λ s. same_slot to s ≡ true) (sym e) (eq-eqb to.0 to.0 refl))) in
               ap (is_key_in k) other ∙ noted q k
-              ∙ sym (others-have arrival from to vs (apart arrival from to earlier) (turned arrival from to earlier) q m n) ∙ sym now
+              ∙ sym (others-joined arrival from to (apart arrival from to differ) (turned arrival from to differ) vs q m n) ∙ sym now
         ]
       ]
     where

@@ -56,6 +56,12 @@ removed-set [] i y lt = absurd (omega arith)
 removed-set (x ∷ xs) ℕ.zero y lt = refl
 removed-set (x ∷ xs) (ℕ.suc i) y lt = ap (λ ys. x ∷ ys) (removed-set xs i y (omega arith))
 
+-- of what is set twice the second is left
+pub set-twice : {X : Type 0} (xs : List X) (i : ℕ) (y z : X) → slice_set (slice_set xs i y) i z ≡ slice_set xs i z
+set-twice [] i y z = refl
+set-twice (x ∷ xs) ℕ.zero y z = refl
+set-twice (x ∷ xs) (ℕ.suc i) y z = ap (λ ys. x ∷ ys) (set-twice xs i y z)
+
 -- a place within the list is read as it is, whatever is read past the end
 pub same-read : {X : Type 0} (xs : List X) (i : ℕ) (d e : X) → i < length xs → get_or xs i d ≡ get_or xs i e
 same-read [] i d e lt = absurd (omega arith)
@@ -96,7 +102,7 @@ module _ (kept : Slot → Bool) (arrival : Slot → ℕ) where
   apart : (a b : Slot) → (arrival a ≡ arrival b → ⊥) → same_slot a b ≡ false
   apart a b differ = false_from_ne_true (same_slot a b) (λ t. differ (ap arrival (slots-from_same a b t)))
 
-  none-behind : (by : ℕ) (slot : Slot) (vs : List Version) → arrival slot ≤ by → list_all (λ w. nat_lt by (arrival w.slot)) vs ≡ true →
+  pub none-behind : (by : ℕ) (slot : Slot) (vs : List Version) → arrival slot ≤ by → list_all (λ w. nat_lt by (arrival w.slot)) vs ≡ true →
       has_version_at slot vs ≡ false
   none-behind by slot [] le all = refl
   none-behind by slot (v ∷ vs) le all =
@@ -114,7 +120,7 @@ module _ (kept : Slot → Bool) (arrival : Slot → ℕ) where
       rw other (none-later_than slot vs parts.1)
 
   -- the version at the state, found by its place, is the one that leaves
-  leaves : (from : Slot) (vs : List Version) (i : ℕ) (d : Version) → are_in_order kept arrival vs ≡ true → i < length vs → (get_or vs i d).slot ≡ from →
+  pub leaves : (from : Slot) (vs : List Version) (i : ℕ) (d : Version) → are_in_order kept arrival vs ≡ true → i < length vs → (get_or vs i d).slot ≡ from →
       (without_version from vs ≡ remove vs i) × (version_at from vs ≡ Some (get_or vs i d))
   leaves from [] i d ordered lt here = absurd (omega arith)
   leaves from (v ∷ vs) ℕ.zero d ordered lt here =
@@ -240,14 +246,14 @@ module _ (kept : Slot → Bool) (arrival : Slot → ℕ) where
         | inr f ↦ rw f (and_from (p w) (list_all p (in_its_place arrival v ws)) parts.0 (all-placed p v ws here parts.1))
       ]
 
-  order-from : (v : Version) (vs : List Version) → kept v.slot ≡ true → list_all (λ w. nat_lt (arrival v.slot) (arrival w.slot)) vs ≡ true →
+  pub order-from : (v : Version) (vs : List Version) → kept v.slot ≡ true → list_all (λ w. nat_lt (arrival v.slot) (arrival w.slot)) vs ≡ true →
       are_in_order kept arrival vs ≡ true → are_in_order kept arrival (v ∷ vs) ≡ true
   order-from v vs here behind rest =
       let all = list_all (λ (w : Version). nat_lt (arrival v.slot) (arrival w.slot)) vs in
       and_from (kept v.slot && all) (are_in_order kept arrival vs) (and_from (kept v.slot) all here behind) rest
 
   -- what is left when a version goes stands in order
-  in_order-without : (from : Slot) (vs : List Version) → are_in_order kept arrival vs ≡ true → are_in_order kept arrival (without_version from vs) ≡ true
+  pub in_order-without : (from : Slot) (vs : List Version) → are_in_order kept arrival vs ≡ true → are_in_order kept arrival (without_version from vs) ≡ true
   in_order-without from [] ordered = refl
   in_order-without from (v ∷ vs) ordered =
       let parts = order-parts kept arrival v vs ordered in

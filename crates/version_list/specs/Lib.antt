@@ -4,3 +4,6 @@ pub mod Notes
 pub mod Versions
 pub mod Reads
 pub mod Promoted
+pub mod Joined
+pub mod Seats
+pub mod SeatOrders

@@ -1,7 +1,7 @@
 //! The versions of each key: one history a key.
 
 ghost use Rattle.std.specs.Prelude.{◌≡◌, ◌≤◌, ◌<◌, ◌+◌, ◌&&◌, ◌||◌, [], ◌∷◌, ◌++◌, ℕ, List, false, length, take, drop, slice_get, bytes_eq, vec_len};
-ghost use Rattle.std.specs.Prelude.{IsTrue, IfOk, IfSome, OnOk, OnErr, None, nat_le, get_or};
+ghost use Rattle.std.specs.Prelude.{IsTrue, IfOk, IfSome, OnOk, OnErr, None, nat_le, get_or, slice_set};
 ghost use Rattle.std.specs.List.{list_any, list_all, insert, remove, IsDistinct};
 ghost use Rattle.std.specs.Option.{option_copied};
 ghost use Rattle.std.specs.Vec.{vec_capacity};
@@ -12,7 +12,8 @@ ghost use Rattle.version_list.specs.Reads.{latest_version};
 ghost use Rattle.version_list.specs.Versions.{has_version_at};
 ghost use Rattle.version_list.specs.Notes.{is_key_in, are_full};
 ghost use Rattle.version_list.specs.declared.histories.Version.{Version};
-ghost use Rattle.version_list.specs.Promoted.{at_state, promoted, promoted_if, moves};
+ghost use Rattle.version_list.specs.Promoted.{at_state, promoted, moves};
+ghost use Rattle.version_list.specs.Joined.{taken_over, joined, joined_if, IsNextIfNewer};
 
 use crate::notes::{KeyChunks, keep, take_first};
 use indexmap::IndexMap;
@@ -27,7 +28,7 @@ use tardis_base::{Above, Key, KeyList, NoMemory, Slot, StateId, Write, WriteSet}
 /// What a state wrote to a key.
 #[derive(Drop)]
 pub struct Version {
-    /// The kept state that stands for the writer.
+    /// The kept state that stands for the writer: in memory its seat.
     pub slot: Slot,
     pub writer: StateId,
     pub write: Write,
@@ -125,12 +126,66 @@ impl History {
         ensures versions { (d : Version) → self.new.versions ≡ insert (remove self.old.versions from) end (at_state to (get_or self.old.versions from d)) }
         ensures room { self.old.room ≤ self.new.room }
     {
+        self.set_state(from, to);
+        self.versions.carry(from, end);
+    }
+
+    /// Moves the version at the place to this state. It takes no memory, and constant time.
+    fn set_state(&mut self, place: usize, to: Slot)
+        requires { place < length self.old.versions }
+        ensures versions { (d : Version) → self.new.versions ≡ slice_set self.old.versions place (at_state to (get_or self.old.versions place d)) }
+        ensures room { self.old.room ≤ self.new.room }
+    {
         let moved = Version {
             slot: to,
-            ..self.versions.replace(from, Version::default())
+            ..self.versions.replace(place, Version::default())
         };
-        drop(self.versions.replace(from, moved));
-        self.versions.carry(from, end);
+        drop(self.versions.replace(place, moved));
+    }
+
+    /// Puts the version at `from`, if there is one, in the place of that at `to`, which arrived before it, and answers whether
+    /// there was one at `from` alone. It takes no memory.
+    fn take_over<A: Above>(&mut self, dag: &A, from: Slot, to: Slot) -> bool
+        requires order { IsTrue (are_in_order (A.is_kept dag.now) (A.arrival_of dag.now) self.old.versions) }
+        requires from { IsTrue (A.is_kept dag.now from) }
+        requires to { IsTrue (A.is_kept dag.now to) }
+        requires after { A.arrival_of dag.now to < A.arrival_of dag.now from }
+        ensures taken { self.new.versions ≡ taken_over from to self.old.versions }
+        ensures moved { result ≡ moves from to self.old.versions }
+        ensures room { self.old.room ≤ self.new.room }
+    {
+        let older = place_of(dag, self.versions.as_slice(), to);
+        match place_of(dag, self.versions.as_slice(), from) {
+            Some(place) => {
+                self.set_state(place, to);
+                match older {
+                    Some(older) => {
+                        drop(self.versions.remove(older));
+                        false
+                    },
+                    None => true,
+                }
+            },
+            None => false,
+        }
+    }
+
+    /// Moves the version at `from`, if there is one, to `to`. Where both have one the newer is left. It answers whether one
+    /// moved that was there alone, and takes no memory.
+    fn join<A: Above>(&mut self, dag: &A, from: Slot, to: Slot) -> bool
+        requires order { IsTrue (are_in_order (A.is_kept dag.now) (A.arrival_of dag.now) self.old.versions) }
+        requires from { IsTrue (A.is_kept dag.now from) }
+        requires to { IsTrue (A.is_kept dag.now to) }
+        requires apart { A.arrival_of dag.now from ≡ A.arrival_of dag.now to → ⊥ }
+        ensures joined { self.new.versions ≡ joined (A.arrival_of dag.now) from to self.old.versions }
+        ensures moved { result ≡ moves from to self.old.versions }
+        ensures room { self.old.room ≤ self.new.room }
+    {
+        if dag.arrival(to) < dag.arrival(from) {
+            self.take_over(dag, from, to)
+        } else {
+            self.promote(dag, from, to)
+        }
     }
 }
 
@@ -232,17 +287,18 @@ impl KeyLists {
         }
     }
 
-    /// Moves the key's version at `from`, if there is one, to `to`, or takes it away where that has one, and answers whether
-    /// one moved. It takes no memory.
+    /// Moves the key's version at `from`, if there is one, to `to`. Where both have one the newer is left. It answers whether
+    /// one moved that was there alone, and takes no memory.
     ///
     /// The cost is that of a look-up of the key and of three binary searches among its versions, and of moving those between
     /// `from` and `to`, or, where one goes, those before it or behind it, whichever are fewer.
-    fn promote<A: Above>(&mut self, dag: &A, key: &Key, from: Slot, to: Slot) -> bool
+    fn join<A: Above>(&mut self, dag: &A, key: &Key, from: Slot, to: Slot) -> bool
         requires order { AllInOrder (A.is_kept dag.now) (A.arrival_of dag.now) self.old }
         requires from { IsTrue (A.is_kept dag.now from) }
         requires to { IsTrue (A.is_kept dag.now to) }
-        requires before { A.arrival_of dag.now from < A.arrival_of dag.now to }
-        ensures promoted { versions_in self.new key.now ≡ promoted (A.arrival_of dag.now) from to (versions_in self.old key.now) }
+        requires apart { A.arrival_of dag.now from ≡ A.arrival_of dag.now to → ⊥ }
+        requires next { IsNextIfNewer (A.is_kept dag.now) (A.arrival_of dag.now) from to }
+        ensures joined { versions_in self.new key.now ≡ joined (A.arrival_of dag.now) from to (versions_in self.old key.now) }
         ensures moved { result ≡ moves from to (versions_in self.old key.now) }
         ensures others { (k : List ℕ) → bytes_eq key.now k ≡ false → listed_in self.new k ≡ listed_in self.old k }
         ensures keys { keys_in self.new ≡ keys_in self.old }
@@ -251,21 +307,22 @@ impl KeyLists {
         self.hand_on(dag, key, from, to)
     }
 
-    /// Promotes each of these keys, and keeps those whose version moved.
-    fn promote_keys<A: Above>(&mut self, dag: &A, keys: &mut Vec<Key>, from: Slot, to: Slot)
+    /// Does so with each of these keys, and keeps those whose version moved.
+    fn join_keys<A: Above>(&mut self, dag: &A, keys: &mut Vec<Key>, from: Slot, to: Slot)
         requires order { AllInOrder (A.is_kept dag.now) (A.arrival_of dag.now) self.old }
         requires from { IsTrue (A.is_kept dag.now from) }
         requires to { IsTrue (A.is_kept dag.now to) }
-        requires before { A.arrival_of dag.now from < A.arrival_of dag.now to }
-        ensures promoted { (k : List ℕ) → versions_in self.new k
-            ≡ promoted_if (is_key_among k keys.old.items) (A.arrival_of dag.now) from to (versions_in self.old k) }
+        requires apart { A.arrival_of dag.now from ≡ A.arrival_of dag.now to → ⊥ }
+        requires next { IsNextIfNewer (A.is_kept dag.now) (A.arrival_of dag.now) from to }
+        ensures joined { (k : List ℕ) → versions_in self.new k
+            ≡ joined_if (is_key_among k keys.old.items) (A.arrival_of dag.now) from to (versions_in self.old k) }
         ensures kept { (k : List ℕ) → is_key_among k keys.new.items ≡ (is_key_among k keys.old.items && moves from to (versions_in self.old k)) }
         ensures keys { keys_in self.new ≡ keys_in self.old }
         ensures order { AllInOrder (A.is_kept dag.now) (A.arrival_of dag.now) self.new }
     {
         let mut place = 0;
         while place < keys.len() {
-            if self.promote(dag, &keys[place], from, to) {
+            if self.join(dag, &keys[place], from, to) {
                 place += 1;
             } else {
                 keys.swap_remove(place);
@@ -273,46 +330,48 @@ impl KeyLists {
         }
     }
 
-    /// Promotes each key of the chunk, and keeps those whose version moved.
-    fn promote_chunk<A: Above>(&mut self, dag: &A, chunk: &mut KeyList, from: Slot, to: Slot)
+    /// Does so with each key of the chunk, and keeps those whose version moved.
+    fn join_chunk<A: Above>(&mut self, dag: &A, chunk: &mut KeyList, from: Slot, to: Slot)
         requires order { AllInOrder (A.is_kept dag.now) (A.arrival_of dag.now) self.old }
         requires from { IsTrue (A.is_kept dag.now from) }
         requires to { IsTrue (A.is_kept dag.now to) }
-        requires before { A.arrival_of dag.now from < A.arrival_of dag.now to }
-        ensures promoted { (k : List ℕ) → versions_in self.new k
-            ≡ promoted_if (is_key_among k chunk.old) (A.arrival_of dag.now) from to (versions_in self.old k) }
+        requires apart { A.arrival_of dag.now from ≡ A.arrival_of dag.now to → ⊥ }
+        requires next { IsNextIfNewer (A.is_kept dag.now) (A.arrival_of dag.now) from to }
+        ensures joined { (k : List ℕ) → versions_in self.new k
+            ≡ joined_if (is_key_among k chunk.old) (A.arrival_of dag.now) from to (versions_in self.old k) }
         ensures kept { (k : List ℕ) → is_key_among k chunk.new ≡ (is_key_among k chunk.old && moves from to (versions_in self.old k)) }
         ensures keys { keys_in self.new ≡ keys_in self.old }
         ensures order { AllInOrder (A.is_kept dag.now) (A.arrival_of dag.now) self.new }
     {
         let alloc = *self.lists.allocator();
         let mut keys = mem::replace(chunk, KeyList::new(alloc)).into_vec();
-        self.promote_keys(dag, &mut keys, from, to);
+        self.join_keys(dag, &mut keys, from, to);
         *chunk = KeyList::from_vec(keys);
     }
 
-    /// Promotes each key of this one chunk, and keeps those whose version moved.
-    fn promote_first<A: Above>(&mut self, dag: &A, chunks: &mut KeyChunks, from: Slot, to: Slot)
+    /// Does so with each key of this one chunk, and keeps those whose version moved.
+    fn join_first<A: Above>(&mut self, dag: &A, chunks: &mut KeyChunks, from: Slot, to: Slot)
         requires one { length chunks.old ≡ 1 }
         requires order { AllInOrder (A.is_kept dag.now) (A.arrival_of dag.now) self.old }
         requires from { IsTrue (A.is_kept dag.now from) }
         requires to { IsTrue (A.is_kept dag.now to) }
-        requires before { A.arrival_of dag.now from < A.arrival_of dag.now to }
-        ensures promoted { (k : List ℕ) → versions_in self.new k
-            ≡ promoted_if (is_key_in k chunks.old) (A.arrival_of dag.now) from to (versions_in self.old k) }
+        requires apart { A.arrival_of dag.now from ≡ A.arrival_of dag.now to → ⊥ }
+        requires next { IsNextIfNewer (A.is_kept dag.now) (A.arrival_of dag.now) from to }
+        ensures joined { (k : List ℕ) → versions_in self.new k
+            ≡ joined_if (is_key_in k chunks.old) (A.arrival_of dag.now) from to (versions_in self.old k) }
         ensures kept { (k : List ℕ) → is_key_in k chunks.new ≡ (is_key_in k chunks.old && moves from to (versions_in self.old k)) }
         ensures one { length chunks.new ≡ 1 }
         ensures keys { keys_in self.new ≡ keys_in self.old }
         ensures order { AllInOrder (A.is_kept dag.now) (A.arrival_of dag.now) self.new }
     {
         match chunks.front_mut() {
-            Some(chunk) => self.promote_chunk(dag, chunk, from, to),
+            Some(chunk) => self.join_chunk(dag, chunk, from, to),
             None => unreachable!(),
         }
     }
 
-    /// Promotes each key of these chunks, and answers those whose version moved. It takes no memory.
-    pub(crate) fn promote_chunks<A: Above>(
+    /// Does so with each key of these chunks, and answers those whose version moved. It takes no memory.
+    pub(crate) fn join_chunks<A: Above>(
         &mut self,
         dag: &A,
         chunks: KeyChunks,
@@ -322,9 +381,10 @@ impl KeyLists {
         requires order { AllInOrder (A.is_kept dag.now) (A.arrival_of dag.now) self.old }
         requires from { IsTrue (A.is_kept dag.now from) }
         requires to { IsTrue (A.is_kept dag.now to) }
-        requires before { A.arrival_of dag.now from < A.arrival_of dag.now to }
-        ensures promoted { (k : List ℕ) → versions_in self.new k
-            ≡ promoted_if (is_key_in k chunks) (A.arrival_of dag.now) from to (versions_in self.old k) }
+        requires apart { A.arrival_of dag.now from ≡ A.arrival_of dag.now to → ⊥ }
+        requires next { IsNextIfNewer (A.is_kept dag.now) (A.arrival_of dag.now) from to }
+        ensures joined { (k : List ℕ) → versions_in self.new k
+            ≡ joined_if (is_key_in k chunks) (A.arrival_of dag.now) from to (versions_in self.old k) }
         ensures kept { (k : List ℕ) → is_key_in k result ≡ (is_key_in k chunks && moves from to (versions_in self.old k)) }
         ensures count { length result ≤ length chunks }
         ensures full { IsTrue (are_full result) }
@@ -335,7 +395,7 @@ impl KeyLists {
         let mut moved = LinkedList::new(*rest.allocator());
         for _ in 0..rest.len() {
             let mut first = take_first(&mut rest);
-            self.promote_first(dag, &mut first, from, to);
+            self.join_first(dag, &mut first, from, to);
             keep(&mut moved, first);
         }
         moved
@@ -345,14 +405,14 @@ impl KeyLists {
         requires order { IsTrue (are_in_order (A.is_kept dag.now) (A.arrival_of dag.now) (versions_in self.old key.now)) }
         requires from { IsTrue (A.is_kept dag.now from) }
         requires to { IsTrue (A.is_kept dag.now to) }
-        requires before { A.arrival_of dag.now from < A.arrival_of dag.now to }
-        ensures promoted { versions_in self.new key.now ≡ promoted (A.arrival_of dag.now) from to (versions_in self.old key.now) }
+        requires apart { A.arrival_of dag.now from ≡ A.arrival_of dag.now to → ⊥ }
+        ensures joined { versions_in self.new key.now ≡ joined (A.arrival_of dag.now) from to (versions_in self.old key.now) }
         ensures moved { result ≡ moves from to (versions_in self.old key.now) }
         ensures others { (k : List ℕ) → bytes_eq key.now k ≡ false → listed_in self.new k ≡ listed_in self.old k }
         ensures keys { keys_in self.new ≡ keys_in self.old }
     {
         match self.lists.get_mut(key) {
-            Some(history) => history.promote(dag, from, to),
+            Some(history) => history.join(dag, from, to),
             None => false,
         }
     }

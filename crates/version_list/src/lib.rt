@@ -2,8 +2,8 @@
 #![tactic(auto)]
 
 mod histories;
-mod images;
 mod notes;
+mod seats;
 mod version_lists;
 
 pub use histories::Version;

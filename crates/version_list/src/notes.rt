@@ -1,6 +1,6 @@
 //! The keys with a version at each state, in chunks that are handed on as they are.
 
-ghost use Rattle.std.specs.Prelude.{◌≡◌, ◌==◌, ℕ, List, ◌+◌, ◌^◌, ◌<◌, ◌≤◌, ◌||◌, ◌&&◌, not, [], ◌∷◌, ◌++◌, cond, length, take, drop, Some, IsTrue, IfOk, OnOk, OnErr, bytes_eq};
+ghost use Rattle.std.specs.Prelude.{◌≡◌, ◌==◌, ℕ, List, ◌+◌, ◌^◌, ◌<◌, ◌≤◌, ◌||◌, ◌&&◌, not, [], ◌∷◌, ◌++◌, cond, length, nat_lt, take, drop, Some, IsTrue, OnOk};
 ghost use Rattle.std.specs.List.{list_any};
 ghost use Rattle.std.specs.Map.{lookup};
 ghost use Rattle.tardis_base.specs.declared.ids.Slot.{Slot};
@@ -18,6 +18,9 @@ pub type KeyChunks = LinkedList<KeyList>;
 
 /// The most chunks that are made, so that no two numbers of them have a sum that doesn't fit.
 const MOST: u64 = 0x4000_0000_0000_0000;
+
+/// The most slots of noted states that are counted.
+const MOST_SLOTS: usize = 0xffff_fff0;
 
 /// The keys noted for each state.
 #[derive(Drop)]
@@ -100,6 +103,18 @@ impl Notes {
         }
     }
 
+    /// How many slots name the noted states, the root, at which none is written, and one state more: at least so many.
+    pub(crate) fn slots(&self) -> u32 {
+        self.chunks.len().min(MOST_SLOTS) as u32 + 2
+    }
+
+    /// Whether more chunks are noted for the one state than for the other, in constant time.
+    pub(crate) fn has_more(&self, one: Slot, other: Slot) -> bool
+        ensures { result ≡ nat_lt (length (chunks_for other self.now.by_slot)) (length (chunks_for one self.now.by_slot)) }
+    {
+        self.at(other).len() < self.at(one).len()
+    }
+
     /// Takes the chunks of the state out. None are left there. It takes no memory, and constant time.
     pub(crate) fn take(&mut self, slot: Slot) -> KeyChunks
         ensures taken { result ≡ chunks_for slot self.old.by_slot }
@@ -116,84 +131,6 @@ impl Notes {
             },
             None => LinkedList::new(*self.none.allocator()),
         }
-    }
-
-    /// Notes the state of this slot, were it with no key.
-    pub(crate) fn note(&mut self, slot: Slot) -> Result<(), NoMemory>
-        ensures noted { OnOk result ((q : Slot) → is_noted_in q self.new.by_slot ≡ (same_slot slot q || is_noted_in q self.old.by_slot)) }
-        ensures not_noted { OnErr result (self.new.by_slot ≡ self.old.by_slot) }
-        ensures same { (q : Slot) → chunks_for q self.new.by_slot ≡ chunks_for q self.old.by_slot }
-    {
-        self.reserve_slot()?;
-        self.put_none_once(slot);
-        Ok(())
-    }
-
-    /// Notes the state of this slot, were it with no key, unless it is noted. It takes no memory.
-    fn put_none_once(&mut self, slot: Slot)
-        requires { 0 < self.old.states }
-        ensures noted { (q : Slot) → is_noted_in q self.new.by_slot ≡ (same_slot slot q || is_noted_in q self.old.by_slot) }
-        ensures same { (q : Slot) → chunks_for q self.new.by_slot ≡ chunks_for q self.old.by_slot }
-    {
-        if self.is_noted(slot) {
-            return;
-        }
-        self.put_none(slot);
-    }
-
-    /// Makes room for one more state.
-    fn reserve_slot(&mut self) -> Result<(), NoMemory>
-        ensures same { self.new.by_slot ≡ self.old.by_slot }
-        ensures states { OnOk result (0 < self.new.states) }
-    {
-        self.chunks.reserve(1)?;
-        Ok(())
-    }
-
-    /// Whether something was noted for the state.
-    fn is_noted(&self, slot: Slot) -> bool
-        ensures { result ≡ is_noted_in slot self.now.by_slot }
-    {
-        self.chunks.contains_key(&slot)
-    }
-
-    /// Notes no key for the state. It takes no memory.
-    fn put_none(&mut self, slot: Slot)
-        requires { 0 < self.old.states }
-        ensures { (q : Slot) → lookup (same_slot q) self.new.by_slot ≡ cond (same_slot slot q) (Some []) (lookup (same_slot q) self.old.by_slot) }
-    {
-        let none = LinkedList::new(*self.none.allocator());
-        match self.chunks.insert(slot, none) {
-            Ok(_) => {},
-            Err(_) => unreachable!(),
-        }
-    }
-
-    /// Notes the key for the state of this slot, beside those that are noted there.
-    pub(crate) fn note_key(&mut self, slot: Slot, key: Key) -> Result<(), NoMemory>
-        ensures noted { OnOk result ((q : Slot) → is_noted_in q self.new.by_slot ≡ (same_slot slot q || is_noted_in q self.old.by_slot)) }
-        ensures keys { OnOk result ((q : Slot) (k : List ℕ) → is_key_in k (chunks_for q self.new.by_slot)
-            ≡ (is_key_in k (chunks_for q self.old.by_slot) || same_slot slot q && bytes_eq k key)) }
-    {
-        self.note(slot)?;
-        let chunks = self.take(slot);
-        let more = with_key(chunks, key)?;
-        self.count_chunk()?;
-        self.give(slot, more);
-        Ok(())
-    }
-
-    /// Counts one more chunk that was made.
-    fn count_chunk(&mut self) -> Result<(), NoMemory>
-        ensures same { self.new.by_slot ≡ self.old.by_slot }
-        ensures chunks { self.new.chunks ≡ self.old.chunks }
-        ensures made { OnOk result (self.new.made ≡ self.old.made + 1) }
-    {
-        if self.made >= MOST {
-            return Err(NoMemory);
-        }
-        self.made += 1;
-        Ok(())
     }
 
     /// Puts these chunks behind those of the state. It takes no memory, and constant time.
@@ -225,29 +162,6 @@ fn filled(mut chunk: KeyChunks, keys: KeyList) -> KeyChunks
     }
     set_first(&mut chunk, keys);
     chunk
-}
-
-/// The chunks with the key in the first of them, or in one of its own where there is none.
-fn with_key(mut chunks: KeyChunks, key: Key) -> Result<KeyChunks, NoMemory>
-    requires { IsTrue (are_full chunks) }
-    ensures keys { IfOk result (λ more. (k : List ℕ) → is_key_in k more ≡ (is_key_in k chunks || bytes_eq k key)) }
-    ensures count { IfOk result (λ more. length more ≤ length chunks + 1) }
-    ensures full { IfOk result (λ more. IsTrue (are_full more)) }
-{
-    let first = match chunks.pop_front() {
-        Some(first) => first,
-        None => KeyList::new(*chunks.allocator()),
-    };
-    in_front(chunks, first, key)
-}
-
-/// These chunks behind the first one with the key.
-fn in_front(mut rest: KeyChunks, mut first: KeyList, key: Key) -> Result<KeyChunks, NoMemory>
-    ensures { IfOk result (λ chunks. chunks ≡ (first ++ key ∷ []) ∷ rest) }
-{
-    first.push(key)?;
-    rest.push_front(first)?;
-    Ok(rest)
 }
 
 /// Puts these keys into the first of the chunks.
