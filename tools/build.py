@@ -376,7 +376,8 @@ def main(program, *words):
     except KeyboardInterrupt:
         return 128 + signal.SIGINT
     out = os.path.join(TOP, "crates", program, "out", program)
-    os.execv(out, [out, *words])
+    call = [os.path.join(TOP, "tools", "launch.sh"), out] if program == "tardisd" else [out]
+    os.execv(call[0], [*call, *words])
 
 
 if __name__ == "__main__":

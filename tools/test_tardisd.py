@@ -87,9 +87,9 @@ def bodies_of(data):
 class Server:
     """A server that runs, at a path or at a port of the loopback, and at more doors where the words name them."""
 
-    def __init__(self, address, words=()):
+    def __init__(self, address, words=(), program=()):
         self.process = subprocess.Popen(
-            [TARDISD, "--listen", address, *words],
+            [*(program or (TARDISD,)), "--listen", address, *words],
             stdin=subprocess.DEVNULL, stdout=subprocess.PIPE, stderr=subprocess.PIPE)
         self.address = address
         self.line = first_line(self.process)
@@ -276,6 +276,64 @@ class Words(unittest.TestCase):
         for address in told.groups():
             with server.connect(address) as connection:
                 self.assertEqual(ask(connection, OPEN), [OPENED])
+
+    def test_a_silent_connection_is_asked_whether_it_is_there(self):
+        server = Server("127.0.0.1:0")
+        self.addCleanup(server.end)
+        with server.connect(server.line.split()[-1]) as connection:
+            self.assertEqual(ask(connection, OPEN), [OPENED])
+            here, there = connection.getpeername()[1], connection.getsockname()[1]
+            with open("/proc/net/tcp") as file:
+                told = [line.split() for line in file]
+            timers = [it[5] for it in told if it[1].endswith(":%04X" % here) and it[2].endswith(":%04X" % there)]
+            self.assertEqual(len(timers), 1)
+            # the system's timer for keepalive, and when it goes off, in hundredths of a second
+            kind, when = timers[0].split(":")
+            self.assertEqual(kind, "02")
+            self.assertTrue(5000 < int(when, 16) <= 6000, when)
+
+    def test_memory_is_bounded_by_a_word_of_the_launcher(self):
+        launcher = os.path.join(TOP, "tools", "launch.sh")
+        for words in ("--memory",), ("--memory", "0"), ("--memory", "x"), ("--memory", "16777217"), ("--memory", "9", "--memory", "9"):
+            done = subprocess.run([launcher, TARDISD, "--listen", self.address, *words], capture_output=True, timeout=PATIENCE)
+            self.assertEqual((done.returncode, done.stdout), (1, b""))
+            self.assertTrue(done.stderr.startswith(b"tardisd: --memory "), done.stderr)
+        self.assertEqual(os.listdir(self.folder), [])
+        server = Server(self.address, ("--memory", "64", "--tidy"), (launcher, TARDISD))
+        self.addCleanup(server.end)
+        with open("/proc/%d/limits" % server.process.pid) as file:
+            told = next(line.split() for line in file if line.startswith("Max address space"))
+        self.assertEqual(told[3:5], [str(64 << 20)] * 2)
+        with server.connect() as connection:
+            self.assertEqual(ask(connection, OPEN, BEGIN, put(b"x", b"1"), COMMIT)[2:], [DONE, b"\x08" + state(1, 1) + b"\x01" + state(0, 0)])
+
+    def test_all_is_installed_in_its_place(self):
+        programs, prefix = self.path("programs"), self.path("prefix")
+        os.mkdir(programs)
+        for name, program in ("tardis", TARDIS), ("tardisd", TARDISD):
+            with open(program, "rb") as file:
+                if file.read(4) != b"\x7fELF":
+                    self.skipTest("the programs are named by the scripts that build them")
+            shutil.copy(program, os.path.join(programs, name))
+        told = subprocess.run([os.path.join(TOP, "install"), "--prefix", prefix, "--from", programs],
+                              capture_output=True, check=True, timeout=PATIENCE).stdout.decode().splitlines()
+        for name in "bin/tardis", "bin/tardisd", "bin/kumovasil", "lib/kumovasil/tardisd", "lib/systemd/system/tardisd@.service":
+            self.assertIn(os.path.join(prefix, name), told)
+        installed = os.path.join(prefix, "bin", "tardisd")
+        self.assertEqual(subprocess.run([installed, "--version"], capture_output=True).stdout, b"tardisd 0.1.0\n")
+        help = subprocess.run([installed, "--help"], capture_output=True).stdout.decode()
+        self.assertEqual(help.count("--memory MB"), 1)
+        server = Server(self.address, ("--memory", "256"), (installed,))
+        self.addCleanup(server.end)
+        asked = subprocess.run([os.path.join(prefix, "bin", "kumovasil"), "stat", self.address], capture_output=True, timeout=PATIENCE)
+        self.assertEqual(asked.returncode, 0, asked.stderr)
+        with open(os.path.join(prefix, "lib", "systemd", "system", "tardisd@.service")) as file:
+            self.assertIn("ExecStart=%s $OPTIONS" % installed, file.read())
+
+    @unittest.skipUnless(all(shutil.which(name) for name in ("ssh", "sshd", "stunnel4", "openssl")), "what tunnels are made of isn't installed")
+    def test_who_has_no_key_comes_through_no_tunnel(self):
+        done = subprocess.run([sys.executable, os.path.join(TOP, "tools", "test_tunnels.py"), TARDISD], capture_output=True, timeout=120)
+        self.assertEqual(done.returncode, 0, done.stdout + done.stderr)
 
     def test_a_living_servers_address_is_kept_and_a_dead_ones_taken(self):
         first = Server(self.address)

@@ -47,7 +47,7 @@ fn base_set(base: Base<'_>) -> Option<Parts<'_>>
     }
 }
 
-/// The items of both sides that stay, with a comma between each two. Each set is gone through once.
+/// The items of both sides that stay, with a comma between each two. The base is gone through once, each side twice.
 fn three_way_text(
     alloc: Global,
     mut base: Parts<'_>,

@@ -1,5 +1,6 @@
 //! Where connections come: a path of a Unix socket, or an address of TCP.
 
+use crate::keepalives::keep_alive;
 use crate::streams::Stream;
 use crate::unix_doors::open_unix;
 use mio::net::{TcpListener, UnixListener};
@@ -151,6 +152,7 @@ impl Door {
             Listener::Tcp(listener) => {
                 let (stream, _) = listener.accept()?;
                 let _ = stream.set_nodelay(true);
+                keep_alive(&stream);
                 Ok(Stream::Tcp(stream))
             }
         }

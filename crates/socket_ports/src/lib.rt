@@ -8,6 +8,7 @@ mod clocks;
 mod doors;
 mod edges;
 mod idles;
+mod keepalives;
 mod lines;
 mod plugs;
 mod rooms;

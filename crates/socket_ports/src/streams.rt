@@ -6,6 +6,7 @@ ghost use Rattle.tardis_base.specs.declared.replies.Reply.TheVariants.{Refused};
 ghost use Rattle.tardis_base.specs.declared.replies.Refusal.TheVariants.{SessionsFull};
 ghost use Rattle.wire_talk.specs.Spellings.{reply_spelling};
 
+use crate::keepalives::keep_alive;
 use mio::net::{TcpStream, UnixStream};
 use mio::{Interest, Registry, Token};
 use std::io::{self, Read, Write};
@@ -104,6 +105,7 @@ impl Stream {
                     return Err(io::ErrorKind::ConnectionRefused.into());
                 }
                 let _ = stream.set_nodelay(true);
+                keep_alive(stream);
                 Ok(())
             }
         }
