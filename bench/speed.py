@@ -221,6 +221,17 @@ def forks(states, asked):
             yield frame(1, request)
 
 
+def fan(states, forks):
+    """a chain of so many states, and then so many forks off its first"""
+    yield frame(1, opens())
+    for _ in range(states):
+        for request in (BEGIN_ANY, put("k"), SERIALIZABLE):
+            yield frame(1, request)
+    for _ in range(forks):
+        for request in (begin_at(1, 1), get("k"), put("k"), SERIALIZABLE):
+            yield frame(1, request)
+
+
 def imported(keys):
     """what `import` writes for so many keys: groups of 64, each with a floor and a Tidy behind it"""
     yield frame(1, opens(follow=True))
@@ -275,8 +286,11 @@ SHAPES = {
     "chain 40,000, 4,000 keys, tidied to 15,000": [tidied_chain(40_000, 15_000, 4_000)],
     "second children of 1,000": [forks(1_000, 1_000), forks(1_000, 0)],
     "second children of 4,000": [forks(4_000, 4_000), forks(4_000, 0)],
+    "2,000 forks off an old state": [fan(5_000, 2_000), fan(5_000, 0)],
+    "10,000 forks off an old state": [fan(5_000, 10_000), fan(5_000, 0)],
     "import of 20,000 keys": [imported(20_000)],
     "import of 80,000 keys": [imported(80_000)],
+    "import of 1,000,000 keys": [imported(1_000_000)],
     "one Tidy of 16,000": [one_tidy(16_000, True), one_tidy(16_000, False)],
     "one Tidy of 2,000": [one_tidy(2_000, True), one_tidy(2_000, False)],
     "Stat of 16,000 states": [stats(16_000, False, 20_000), stats(16_000, False, 0)],
