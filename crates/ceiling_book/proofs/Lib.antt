@@ -7,4 +7,3 @@ pub mod Newest
 pub mod Late
 pub mod Consenting
 pub mod Renames
-pub mod SlotTests

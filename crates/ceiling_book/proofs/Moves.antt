@@ -1,5 +1,5 @@
 -- How ceilings and floors move.
-use Rattle.std.proofs.Common.{◌≡◌, ℕ, ◌-◌, ◌<◌, ◌≤◌, Bool, true, false, not, List, [], ◌∷◌, length, map, find, take, get_or, Some, inl, inr, refl, sym, ap}
+use Rattle.std.proofs.Common.{◌≡◌, ℕ, ◌-◌, ◌<◌, ◌≤◌, Bool, true, false, not, List, [], ◌∷◌, length, map, find, take, get_or, replicate, Some, inl, inr, refl, sym, ap}
 use Rattle.std.proofs.Common.{subst, ◌∙◌, take_all, arith}
 use Rattle.std.specs.Option.{option_map, unwrap_or}
 use Rattle.std.specs.List.{All, list_all}
@@ -8,7 +8,7 @@ use Rattle.std.specs.Prelude.{slice_set}
 use Rattle.std.proofs.lemmas.Bool.{cases_Bool, cond-true, cond-false}
 use Rattle.std.proofs.lemmas.Option.{slice_get-map, slice_get-get_or}
 use Rattle.std.proofs.lemmas.List.{map-set}
-use Rattle.std.proofs.lemmas.List.Elements.{All-set}
+use Rattle.std.proofs.lemmas.List.Elements.{All-set, All-replicate}
 use Rattle.std.proofs.lemmas.List.Folds.{list_all-map, list_all_at}
 use Rattle.tardis_base.specs.declared.ids.StateId.{StateId}
 use Rattle.tardis_base.specs.declared.ids.Slot.{Slot}
@@ -23,27 +23,24 @@ use Rattle.ceiling_book.specs.declared.parts.Place.{Place}
 use Rattle.ceiling_book.specs.declared.parts.OpenSession.{OpenSession}
 use Rattle.ceiling_book.specs.declared.parts.KnownFloor.{KnownFloor}
 use Rattle.ceiling_book.specs.Book.{Book, session_of, sessions_of, known_floor, floors_of, own_floor}
-use Rattle.ceiling_book.specs.Places.{AllPlaces, IsAt, ArePlaced}
-use Rattle.ceiling_book.specs.Floors.{holder, slot_holder}
+use Rattle.ceiling_book.specs.Places.{AllPlaces, PlacesBesideFloors, IsAt, ArePlaced}
+use Rattle.ceiling_book.specs.Floors.{holder, slot_holder, unpromised, unpromised_at, with_floors_at}
 use Rattle.ceiling_book.proofs.Entries.{mapped}
 
 -- ===== Every floor
 
-module _ (p : StateId → Bool) (items fs : List KnownFloor) (same : items ≡ fs) where
+module _ (p : Floor → Bool) (items fs : List KnownFloor) (same : items ≡ fs) where
   -- one floor fails, and so not all pass
-  pub one-fails : (i : ℕ) (d : KnownFloor) → i < length items → p (get_or items i d).place.state ≡ false →
-      false ≡ list_all (λ (f : Floor). p f.state) (map known_floor fs)
+  pub one-fails : (i : ℕ) (d : KnownFloor) → i < length items → p (known_floor (get_or items i d)) ≡ false → false ≡ list_all p (map known_floor fs)
   one-fails i d within fails =
-      subst (λ gs. false ≡ list_all (λ (f : Floor). p f.state) (map known_floor gs)) same
-      (sym (list_all-map (λ (f : Floor). p f.state) known_floor items ∙ list_all_at (λ (f : KnownFloor). p f.place.state) items i d within fails))
+      subst (λ gs. false ≡ list_all p (map known_floor gs)) same
+      (sym (list_all-map p known_floor items ∙ list_all_at (λ (f : KnownFloor). p (known_floor f)) items i d within fails))
 
   -- all pass that were asked, and all were asked
-  pub all-pass : (i : ℕ) → length items ≤ i → list_all (λ (f : KnownFloor). p f.place.state) (take i items) ≡ true →
-      true ≡ list_all (λ (f : Floor). p f.state) (map known_floor fs)
+  pub all-pass : (i : ℕ) → length items ≤ i → list_all (λ (f : KnownFloor). p (known_floor f)) (take i items) ≡ true → true ≡ list_all p (map known_floor fs)
   all-pass i end pass =
-      subst (λ gs. true ≡ list_all (λ (f : Floor). p f.state) (map known_floor gs)) same
-      (sym (list_all-map (λ (f : Floor). p f.state) known_floor items ∙ ap (list_all (λ (f : KnownFloor). p f.place.state)) (sym (take_all i items end))
-      ∙ pass))
+      subst (λ gs. true ≡ list_all p (map known_floor gs)) same
+      (sym (list_all-map p known_floor items ∙ ap (list_all (λ (f : KnownFloor). p (known_floor f))) (sym (take_all i items end)) ∙ pass))
 
 -- what stands at a place past the end
 abbrev pub no_floor : KnownFloor
@@ -123,3 +120,30 @@ module _ (book now : Book) (is : book ≡ now) where
         last_commits = here.last_commits;
         of_floors = All-set (λ g. At g.place) book.floors (book.own - 1) f at here.of_floors;
       }
+
+-- ===== All floors
+
+-- all are one where as many of it were written
+pub all-one : (f : KnownFloor) (fs : List KnownFloor) → replicate (length fs) f ≡ map (λ (g : KnownFloor). f) fs
+all-one f [] = refl
+all-one f (g ∷ fs) = ap (λ hs. f ∷ hs) (all-one f fs)
+
+-- and so they are known
+pub all-known : (place : Place) (fs : List KnownFloor) → map known_floor (map (λ (f : KnownFloor). unpromised_at place) fs) ≡ map (λ (f : Floor). unpromised place.state) (map known_floor fs)
+all-known place [] = refl
+all-known place (f ∷ fs) = ap (λ gs. unpromised place.state ∷ gs) (all-known place fs)
+
+module _ (book now : Book) (is : book ≡ now) (place : Place) where
+  -- what was written is the book with every floor there
+  pub floors-set : (fs : List KnownFloor) → fs ≡ replicate (length book.floors) (unpromised_at place) → record book { floors = fs } ≡ with_floors_at place now
+  floors-set fs written = ap (λ gs. record book { floors = gs }) (written ∙ all-one (unpromised_at place) book.floors) ∙ ap (with_floors_at place) is
+
+pub floors-placed : (At Near : Place → Type 0) (place : Place) (book : Book) → PlacesBesideFloors At Near book → At place →
+    AllPlaces At Near (with_floors_at place book)
+floors-placed At Near place book beside at = record {
+  of_root = beside.of_root;
+  ceilings = beside.ceilings;
+  last_commits = beside.last_commits;
+  of_floors = subst (λ fs. All (λ (f : KnownFloor). At f.place) fs) (all-one (unpromised_at place) book.floors)
+      (All-replicate (λ (f : KnownFloor). At f.place) (length book.floors) (unpromised_at place) at);
+}

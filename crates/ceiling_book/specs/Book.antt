@@ -1,5 +1,6 @@
 -- What a book of ceilings keeps.
-use Rattle.std.specs.Prelude.{ℕ, Bool, ◌==◌, List, map, length, is_some}
+use Rattle.std.specs.Prelude.{◌≤◌, ℕ, Bool, ◌==◌, List, map, length, is_some}
+use Rattle.tardis_base.specs.Sizes.{most_sites, most_sessions}
 use Rattle.tardis_base.specs.declared.ids.Slot.{Slot}
 use Rattle.plain_dag.specs.Entries.{entry_of}
 use Rattle.plain_dag.specs.Floors.{Session, Sessions, Floor, floor_of}
@@ -14,6 +15,15 @@ pub record Book : Type 0 where
   pub root : Slot
   pub sessions : List (ℕ × OpenSession)
   pub floors : List KnownFloor
+
+-- what is so of every book: the own number is that of a site, of at most 16, and no more sessions are open than may be, which
+-- is at most 4,096
+pub record IsBook (book : Book) : Type 0 where
+  pub first : 1 ≤ book.own
+  pub last : book.own ≤ length book.floors
+  pub sites : length book.floors ≤ most_sites
+  pub few : book.max_sessions ≤ most_sessions
+  pub within : length book.sessions ≤ book.max_sessions
 
 -- the session without its slots
 abbrev pub session_of : OpenSession → Session

@@ -1,5 +1,5 @@
 -- What the calls that move ceilings and floors answer.
-use Rattle.std.specs.Prelude.{◌≡◌, ℕ, Bool, ◌+◌, ◌==◌, not, List, length, find, Option, None, Some, Result, Ok, Err, IsTrue, IsFalse}
+use Rattle.std.specs.Prelude.{◌≡◌, ℕ, Bool, ◌+◌, ◌==◌, ◌&&◌, not, List, length, map, find, Option, None, Some, Result, Ok, Err, IsTrue, IsFalse}
 use Rattle.std.specs.List.{list_all}
 use Rattle.std.specs.Option.{option_map}
 use Rattle.tardis_base.specs.declared.ids.StateId.{StateId}
@@ -9,9 +9,11 @@ use Rattle.tardis_base.specs.declared.faults.SeqEnd.{SeqEnd as NumbersEnd}
 use Rattle.plain_dag.specs.States.{count_of_site}
 use Rattle.plain_dag.specs.Above.{is_above}
 use Rattle.plain_dag.specs.Entries.{changed}
-use Rattle.plain_dag.specs.Floors.{Session, Sessions, with_ceiling, holding_session, automatic_floor, with_floor}
+use Rattle.plain_dag.specs.Floors.{Session, Sessions, Floor, with_ceiling, holding_session, automatic_floor, with_floor}
 use Rattle.state_dag.specs.Table.{Table, id_at, is_slot_above}
+use Rattle.ceiling_book.specs.declared.parts.Place.{Place}
 use Rattle.ceiling_book.specs.declared.parts.OpenSession.{OpenSession}
+use Rattle.ceiling_book.specs.declared.parts.KnownFloor.{KnownFloor}
 use Rattle.ceiling_book.specs.declared.floors.CeilingBack.{CeilingBack}
 use Rattle.ceiling_book.specs.declared.floors.RaiseFault.{RaiseFault}
 use Rattle.ceiling_book.specs.declared.floors.RaiseFault.TheVariants.{FloorBack, Held, SeqEnd}
@@ -24,6 +26,22 @@ pub record KeepsSessions (old new : Book) : Type 0 where
   pub root : new.root ≡ old.root
   pub sessions : new.sessions ≡ old.sessions
   pub sites : length new.floors ≡ length old.floors
+
+-- a floor at the state, before any promise of its site
+abbrev pub unpromised : StateId → Floor
+unpromised x = record { state = x; number = 0; stated = 0 }
+
+-- the same, with its slot
+abbrev pub unpromised_at : Place → KnownFloor
+unpromised_at place = record { place = place; number = 0; stated = 0 }
+
+-- the book with every floor at this place, as before any promise
+abbrev pub with_floors_at : Place → Book → Book
+with_floors_at place book = record book { floors = map (λ (f : KnownFloor). unpromised_at place) book.floors }
+
+-- no site has promised anything, and each floor is at or above the state
+abbrev pub are_unpromised_above : List Record → List Floor → StateId → Bool
+are_unpromised_above rs floors x = list_all (λ (f : Floor). f.number == 0 && is_above rs f.state x) floors
 
 -- the session's ceiling was at or above x and is x now; or it wasn't, and the book is as before
 abbrev pub CeilingSetIn : List Record → Book → Book → ℕ → Session → StateId → Result Unit CeilingBack → Type 0

@@ -6,4 +6,3 @@ pub mod Answers
 pub mod Floors
 pub mod Consents
 pub mod Renaming
-pub mod Images

@@ -17,6 +17,12 @@ pub record AllPlaces (At Near : Place → Type 0) (book : Book) : Type 0 where
   pub last_commits : All (λ s. Near s.last) (values_of book.sessions)
   pub of_floors : All (λ f. At f.place) book.floors
 
+-- so it is but for the floors
+pub record PlacesBesideFloors (At Near : Place → Type 0) (book : Book) : Type 0 where
+  pub of_root : Near (record { state = root; slot = book.root })
+  pub ceilings : All (λ s. At s.ceiling) (values_of book.sessions)
+  pub last_commits : All (λ s. Near s.last) (values_of book.sessions)
+
 -- a state is kept in the table at the slot of the place
 abbrev pub IsSlotOf : Table → Place → Type 0
 IsSlotOf table p = IsTrue (is_slot table p.slot)

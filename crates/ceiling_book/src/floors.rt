@@ -1,19 +1,20 @@
 //! Ceilings and floors move.
 
-ghost use Rattle.std.specs.Prelude.{◌≡◌, ◌≤◌, ◌<◌, ℕ, Bool, false, ◌&&◌, List, length, slice_index_or, Some, IsTrue, IfOk, IfSome, OnErr};
+ghost use Rattle.std.specs.Prelude.{◌≡◌, ◌≤◌, ◌<◌, ℕ, Bool, false, ◌==◌, ◌&&◌, List, length, map, slice_index_or, Some, IsTrue, IfOk, IfSome, OnErr};
 ghost use Rattle.tardis_base.specs.declared.ids.StateId.{StateId};
 ghost use Rattle.tardis_base.specs.declared.records.Record.{Record};
 ghost use Rattle.tardis_base.specs.Ids.{same_id, is_among};
 ghost use Rattle.plain_dag.specs.Above.{is_above, is_proper_ancestor};
 ghost use Rattle.plain_dag.specs.Entries.{entry_of};
-ghost use Rattle.plain_dag.specs.Floors.{Session, automatic_floor, is_closed, is_above_ceilings, is_above_floors};
+ghost use Rattle.plain_dag.specs.Floors.{Session, Floor, automatic_floor, is_closed, is_above_ceilings, is_above_floors};
 ghost use Rattle.plain_dag.specs.Collection.{kept_states};
 ghost use Rattle.state_dag.specs.Table.{Table, id_at, is_slot};
 ghost use Rattle.state_dag.specs.Stands.{Stands};
 ghost use Rattle.ceiling_book.specs.Book.{sessions_of, floors_of, own_floor, is_open};
-ghost use Rattle.ceiling_book.specs.Places.{IsAt, AreSlots, ArePlaced};
+ghost use Rattle.ceiling_book.specs.Places.{PlacesBesideFloors, IsSlotOf, IsAt, HasStandIn, AreSlots, ArePlaced};
 ghost use Rattle.ceiling_book.specs.Answers.{KeepsRest};
-ghost use Rattle.ceiling_book.specs.Floors.{KeepsSessions, CeilingSetIn, FloorMoved, RaisedIn, AutoRaisedIn, slot_holder, each_ceiling};
+ghost use Rattle.ceiling_book.specs.Floors.{KeepsSessions, CeilingSetIn, FloorMoved, RaisedIn, AutoRaisedIn, unpromised, with_floors_at, are_unpromised_above};
+ghost use Rattle.ceiling_book.specs.Floors.{slot_holder, each_ceiling};
 
 use crate::CeilingBook;
 use crate::parts::{KnownFloor, OpenSession, Place};
@@ -203,6 +204,44 @@ impl CeilingBook {
         true
     }
 
+    /// Whether no site has promised anything, and every floor is at or above the state at the slot.
+    ///
+    /// The cost grows with the number of sites: of each an ancestry is asked.
+    pub fn are_unpromised_above(&self, dag: &StateDag, slot: Slot) -> bool
+        requires slots { AreSlots self.now dag.now }
+        requires slot { IsTrue (is_slot dag.now slot) }
+        ensures { (rs : List Record) (ks : List StateId) → Stands dag.now rs ks → ArePlaced self.now dag.now rs ks → (x : StateId)
+            → id_at dag.now slot ≡ Some x → result ≡ are_unpromised_above rs (floors_of self.now) x }
+    {
+        for floor in self.floors.iter() {
+            if !is_unpromised_above(dag, floor, slot) {
+                return false;
+            }
+        }
+        true
+    }
+
+    /// Every floor is at this state then, which is kept at the slot, as before any promise: with number 0 and no state stated.
+    /// Sessions stay.
+    ///
+    /// It takes no memory, and the cost grows with the number of sites.
+    pub fn set_floors(&mut self, state: StateId, slot: Slot)
+        ensures set { self.new ≡ with_floors_at (record { state = state; slot = slot }) self.old }
+        ensures floors { floors_of self.new ≡ map (λ (f : Floor). unpromised state) (floors_of self.old) }
+        ensures rest { KeepsSessions self.old self.new }
+        ensures slots { (table : Table) → PlacesBesideFloors (IsSlotOf table) (IsSlotOf table) self.old → IsTrue (is_slot table slot)
+            → AreSlots self.new table }
+        ensures placed { (table : Table) (rs : List Record) (ks : List StateId) → PlacesBesideFloors (IsAt table) (HasStandIn table rs ks) self.old
+            → id_at table slot ≡ Some state → ArePlaced self.new table rs ks }
+    {
+        let floor = KnownFloor {
+            place: Place { state, slot },
+            number: 0,
+            stated: 0,
+        };
+        self.floors.fill(floor);
+    }
+
     /// Where the own floor is.
     fn own_place(&self) -> Place
         ensures slot { (table : Table) → AreSlots self.now table → IsTrue (is_slot table result.slot) }
@@ -338,6 +377,16 @@ fn is_proper_ancestor(dag: &StateDag, above: Place, below: Place) -> bool
         ≡ is_proper_ancestor rs above.state below.state }
 {
     dag.is_ancestor(above.slot, below.slot) && !is_same(above.state, below.state)
+}
+
+/// Whether the floor's site has promised nothing, and the floor is at or above the state at the slot.
+fn is_unpromised_above(dag: &StateDag, floor: &KnownFloor, slot: Slot) -> bool
+    requires floor { IsTrue (is_slot dag.now floor.now.place.slot) }
+    requires slot { IsTrue (is_slot dag.now slot) }
+    ensures { (rs : List Record) (ks : List StateId) → Stands dag.now rs ks → IsAt dag.now floor.now.place → (x : StateId)
+        → id_at dag.now slot ≡ Some x → result ≡ (floor.now.number == 0 && is_above rs floor.now.place.state x) }
+{
+    floor.number == 0 && dag.is_ancestor(floor.place.slot, slot)
 }
 
 fn is_same(a: StateId, b: StateId) -> bool

@@ -18,7 +18,7 @@ ghost use Rattle.ceiling_book.specs.Renaming.{renamed, is_free, GivesUp};
 
 mod consents;
 mod floors;
-mod images;
+mod lends;
 mod parts;
 
 pub use consents::ConsentEnd;

@@ -15,8 +15,6 @@ mod of_disk_forms;
 #[cfg(test)]
 mod of_faults;
 #[cfg(test)]
-mod of_images;
-#[cfg(test)]
 mod of_log_groups;
 #[cfg(test)]
 mod of_log_text;
