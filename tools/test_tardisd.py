@@ -327,8 +327,12 @@ class Words(unittest.TestCase):
         self.addCleanup(server.end)
         asked = subprocess.run([os.path.join(prefix, "bin", "kumovasil"), "stat", self.address], capture_output=True, timeout=PATIENCE)
         self.assertEqual(asked.returncode, 0, asked.stderr)
-        with open(os.path.join(prefix, "lib", "systemd", "system", "tardisd@.service")) as file:
+        unit = os.path.join(prefix, "lib", "systemd", "system", "tardisd@.service")
+        with open(unit) as file:
             self.assertIn("ExecStart=%s $OPTIONS" % installed, file.read())
+        if shutil.which("systemd-analyze"):
+            verified = subprocess.run(["systemd-analyze", "verify", unit], capture_output=True, timeout=PATIENCE)
+            self.assertEqual((verified.returncode, verified.stderr), (0, b""))
 
     @unittest.skipUnless(all(shutil.which(name) for name in ("ssh", "sshd", "stunnel4", "openssl")), "what tunnels are made of isn't installed")
     def test_who_has_no_key_comes_through_no_tunnel(self):
