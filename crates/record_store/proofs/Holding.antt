@@ -1,7 +1,7 @@
 -- What the calls read off the store's memory, and what they leave there.
-use Rattle.std.proofs.Common.{◌≡◌, ℕ, ◌≤◌, ◌++◌, List, Result, Ok, Err, IsTrue, IsErrAnd, ◌∷◌, [], Option, Some, None, inl, inr, refl, sym, subst, ◌∙◌}
+use Rattle.std.proofs.Common.{◌≡◌, ℕ, ◌<◌, ◌||◌, ◌++◌, List, Result, Ok, Err, IsTrue, IsErrAnd, ◌∷◌, [], Option, Some, None, inl, inr, refl, sym, ap, subst, ◌∙◌, arith}
 use Rattle.std.specs.Option.{option_map_or}
-use Rattle.std.proofs.lemmas.Bool.{and_from, cases_Bool, cond-true, cond-false}
+use Rattle.std.proofs.lemmas.Bool.{and_parts, and_from, or_left, or_right, both_ways, cases_Bool, cond-true, cond-false, eq-eqb}
 use Rattle.tardis_base.specs.declared.ids.StateId.{StateId}
 use Rattle.tardis_base.specs.declared.ids.Slot.{Slot}
 use Rattle.tardis_base.specs.declared.records.Record.{Record}
@@ -14,7 +14,7 @@ use Rattle.state_dag.specs.Table.{Entry, Table, entry_at, is_slot, arrive_in_ord
 use Rattle.state_dag.specs.Stands.{Stands}
 use Rattle.state_dag.specs.Answers.{MayBeAdded, AddedTo, IsNewSlot, KeepsSlots}
 use Rattle.version_list.specs.declared.histories.Version.{Version}
-use Rattle.version_list.specs.Versions.{Versions, listed_keys, versions_of, version_by, are_in_order, is_noted}
+use Rattle.version_list.specs.Versions.{Versions, listed_keys, versions_of, version_by, are_in_order, is_noted, same_slot, IsInOrder}
 use Rattle.record_store.specs.declared.RecordStore.TheInside.{Inside}
 use Rattle.record_store.specs.Store.{Store}
 use Rattle.record_store.specs.Held.{seen, IsHeld}
@@ -46,8 +46,32 @@ module _ (a : Inside) (store : Store) (is : seen a ≡ store) where
     versions = λ k.
         subst (λ (l : List Version). IsTrue (are_in_order (is_kept_at dag) (arrival_at dag) l)) (sym (versions k))
         (subst (λ (t : Table). IsTrue (are_in_order (is_kept_at t) (arrival_at t) (versions_of a.versions k))) (sym same) (held.versions k));
-    noted = λ s kept arrived. notes s ∙ held.noted s (subst (λ (t : Table). IsTrue (is_kept_at t s)) same kept)
-        (subst (λ (t : Table). 1 ≤ arrival_at t s) same arrived);
+    noted = λ s t kept kept_t before. notes s ∙ held.noted s t (subst (λ (d : Table). IsTrue (is_kept_at d s)) same kept)
+        (subst (λ (d : Table). IsTrue (is_kept_at d t)) same kept_t)
+        (subst (λ (d : Table). arrival_at d t < arrival_at d s) same before);
+  }
+
+  -- and where a state arrived, for which keys were noted
+  pub held-grown : (dag : Table) (vs : Versions) → IsHeld a → (slot : Slot) →
+      ((s : Slot) → IsTrue (is_kept_at a.dag s) → IsTrue (is_kept_at dag s) × (arrival_at dag s ≡ arrival_at a.dag s)) → IsTrue (is_kept_at dag slot) →
+      ((s : Slot) → IsTrue (is_kept_at a.dag s) → arrival_at dag s < arrival_at dag slot) →
+      ((s : Slot) → (s ≡ slot → ⊥) → IsTrue (is_slot dag s) → IsTrue (is_slot a.dag s)) → IsInOrder (is_kept_at dag) (arrival_at dag) vs →
+      ((s : Slot) → is_noted vs s ≡ (same_slot slot s || is_noted a.versions s)) → IsHeld (record a { dag = dag; versions = vs })
+  held-grown dag vs held slot kept kept_slot newest others order notes = record {
+    in_order = (and_parts (is_slot dag slot) (arrive_in_order dag.entries) kept_slot).1;
+    versions = order;
+    noted = λ s t kept_s kept_t before. notes s ∙ elim (cases_Bool (same_slot slot s)) [
+      | inl e ↦ or_left (same_slot slot s) (is_noted a.versions s) e
+      | inr f ↦
+          let was : (q : Slot) → (q ≡ slot → ⊥) → IsTrue (is_kept_at dag q) → IsTrue (is_kept_at a.dag q) = λ q other there.
+          and_from (is_slot a.dag q) (arrive_in_order a.dag.entries) (others q other (and_parts (is_slot dag q) (arrive_in_order dag.entries) there).0)
+          held.in_order in
+          let here = was s (λ e. both_ways (same_slot slot s) f (eq-eqb slot.0 s.0 (ap (λ (q : Slot). q.0) (sym e)))) kept_s in
+          let there = was t (λ e. let same = ap (arrival_at dag) e in let less = newest s here in absurd (omega (arith, same, less, before))) kept_t in
+          let one = (kept s here).1 in
+          let two = (kept t there).1 in
+          or_right (same_slot slot s) (is_noted a.versions s) (held.noted s t here there (omega (arith, one, two, before)))
+    ];
   }
 
   -- there was no memory

@@ -7,3 +7,6 @@ pub mod Records
 pub mod LatestHolders
 pub mod Collecting
 pub mod Next
+pub mod QuietRows
+pub mod RowOrders
+pub mod RowStores

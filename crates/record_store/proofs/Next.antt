@@ -8,27 +8,27 @@ use Rattle.tardis_base.specs.declared.ids.Slot.{Slot}
 use Rattle.state_dag.specs.Table.{Entry, Table, is_slot, is_kept_at, arrival_at, arrive_in_order}
 use Rattle.state_dag.specs.Answers.{slot_after}
 
-abbrev found_in : List Entry → ℕ → Option Entry
+abbrev pub found_in : List Entry → ℕ → Option Entry
 found_in es k = find (λ (e : Entry). eqb e.slot.0 k) es
 
-abbrev arrival_in : List Entry → ℕ → ℕ
+abbrev pub arrival_in : List Entry → ℕ → ℕ
 arrival_in es k = option_map_or (λ (e : Entry). e.arrival) (find (λ (e : Entry). eqb e.slot.0 k) es) 0
 
-first-found : (e : Entry) (es : List Entry) (k : ℕ) → eqb e.slot.0 k ≡ true → arrival_in (e ∷ es) k ≡ e.arrival
+pub first-found : (e : Entry) (es : List Entry) (k : ℕ) → eqb e.slot.0 k ≡ true → arrival_in (e ∷ es) k ≡ e.arrival
 first-found e es k t = ap (λ o. option_map_or (λ (f : Entry). f.arrival) o 0) (cond-true (eqb e.slot.0 k) (Some e) (found_in es k) t)
 
-later-found : (e : Entry) (es : List Entry) (k : ℕ) → eqb e.slot.0 k ≡ false → arrival_in (e ∷ es) k ≡ arrival_in es k
+pub later-found : (e : Entry) (es : List Entry) (k : ℕ) → eqb e.slot.0 k ≡ false → arrival_in (e ∷ es) k ≡ arrival_in es k
 later-found e es k f = ap (λ o. option_map_or (λ (g : Entry). g.arrival) o 0) (cond-false (eqb e.slot.0 k) (Some e) (found_in es k) f)
 
-there-later : (e : Entry) (es : List Entry) (k : ℕ) → eqb e.slot.0 k ≡ false → is_some (found_in (e ∷ es) k) ≡ true → is_some (found_in es k) ≡ true
+pub there-later : (e : Entry) (es : List Entry) (k : ℕ) → eqb e.slot.0 k ≡ false → is_some (found_in (e ∷ es) k) ≡ true → is_some (found_in es k) ≡ true
 there-later e es k f there = subst (λ o. is_some o ≡ true) (cond-false (eqb e.slot.0 k) (Some e) (found_in es k) f) there
 
-rest-in_order : (e : Entry) (es : List Entry) → arrive_in_order (e ∷ es) ≡ true → arrive_in_order es ≡ true
+pub rest-in_order : (e : Entry) (es : List Entry) → arrive_in_order (e ∷ es) ≡ true → arrive_in_order es ≡ true
 rest-in_order e [] up = refl
 rest-in_order e (f ∷ es) up = (and_parts (ltb e.arrival f.arrival) (arrive_in_order (f ∷ es)) up).1
 
 -- what is found behind the first arrived after it
-behind : (e : Entry) (es : List Entry) (k : ℕ) → arrive_in_order (e ∷ es) ≡ true → is_some (found_in es k) ≡ true → e.arrival < arrival_in es k
+pub behind : (e : Entry) (es : List Entry) (k : ℕ) → arrive_in_order (e ∷ es) ≡ true → is_some (found_in es k) ≡ true → e.arrival < arrival_in es k
 behind e [] k up there = absurd (both_ways false refl there)
 behind e (f ∷ es) k up there =
     let parts = and_parts (ltb e.arrival f.arrival) (arrive_in_order (f ∷ es)) up in

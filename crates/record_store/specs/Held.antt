@@ -1,5 +1,5 @@
 -- What holds of the store's memory at all times.
-use Rattle.std.specs.Prelude.{◌≤◌, IsTrue}
+use Rattle.std.specs.Prelude.{◌<◌, IsTrue}
 use Rattle.tardis_base.specs.declared.ids.Slot.{Slot}
 use Rattle.state_dag.specs.Table.{arrive_in_order, is_kept_at, arrival_at}
 use Rattle.version_list.specs.Versions.{IsInOrder, is_noted}
@@ -15,4 +15,5 @@ seen a = record { table = a.dag; versions = a.versions }
 pub record IsHeld (a : Inside) : Type 0 where
   pub in_order : IsTrue (arrive_in_order a.dag.entries)
   pub versions : IsInOrder (is_kept_at a.dag) (arrival_at a.dag) a.versions
-  pub noted : (s : Slot) → IsTrue (is_kept_at a.dag s) → 1 ≤ arrival_at a.dag s → IsTrue (is_noted a.versions s)
+  pub noted : (s t : Slot) → IsTrue (is_kept_at a.dag s) → IsTrue (is_kept_at a.dag t) → arrival_at a.dag t < arrival_at a.dag s
+      → IsTrue (is_noted a.versions s)

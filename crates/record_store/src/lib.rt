@@ -26,6 +26,9 @@ ghost use Rattle.version_list.specs.Reads.{found};
 ghost use Rattle.record_store.specs.Stands.{StoreStands, holds_key};
 ghost use Rattle.record_store.specs.Answers.{AddedIn, IsSameStore, MayArrive, StandsAlone, HasReads, read_write, write_found};
 
+mod rows;
+
+pub use state_dag::RowFault;
 use state_dag::StateDag;
 use std::alloc::Global;
 use std::hash::RandomState;

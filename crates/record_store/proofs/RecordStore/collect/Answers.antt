@@ -1,4 +1,4 @@
-use Rattle.std.proofs.Common.{◌≡◌, ◌≤◌, Some, sym, ap, subst, ◌∙◌}
+use Rattle.std.proofs.Common.{◌≡◌, Some, sym, ap, subst, ◌∙◌, arith}
 use Rattle.std.proofs.lemmas.Bool.{and_parts}
 use Rattle.std.proofs.lemmas.Option.{same_Some}
 use Rattle.state_dag.specs.Table.{id_at, is_slot, arrive_in_order}
@@ -19,10 +19,14 @@ invariant_of-self c =
           order-agrees old new c.args.slot c.detach.ensures.kept c.detach.ensures.arrivals (versions_of c.promote.new.self k)
           (c.promote.ensures.left k)
           ∙ c.promote.ensures.order k;
-      noted = λ s kept arrived.
+      noted = λ s t kept kept_t before.
           let other = kept-is_other new c.args.slot c.detach.ensures.gone s kept in
+          let other_t = kept-is_other new c.args.slot c.detach.ensures.gone t kept_t in
+          let one = c.detach.ensures.arrivals s other in
+          let two = c.detach.ensures.arrivals t other_t in
           c.promote.ensures.noted s
-          ∙ c.self.invariant.noted s (sym (c.detach.ensures.kept s other) ∙ kept) (subst (λ n. 1 ≤ n) (c.detach.ensures.arrivals s other) arrived);
+          ∙ c.self.invariant.noted s t (sym (c.detach.ensures.kept s other) ∙ kept) (sym (c.detach.ensures.kept t other_t) ∙ kept_t)
+          (omega (arith, one, two, before));
     }
 
 pub returns-clause-collected : goal.returns-clause-collected

@@ -1,13 +1,13 @@
-use Rattle.std.proofs.Common.{◌++◌, ℕ, List, IsTrue, take, drop, refl, sym, ap₂, subst, ◌∙◌, Err}
+use Rattle.std.proofs.Common.{◌++◌, ◌||◌, ℕ, List, IsTrue, take, drop, refl, sym, ap, ap₂, subst, ◌∙◌, Err}
 use Rattle.std.proofs.Math.Seq.{take-append_seam}
 use Rattle.tardis_base.specs.Keys.{KeyWrite, is_key_among, write_of}
 use Rattle.state_dag.specs.Table.{is_kept_at, arrival_at}
 use Rattle.version_list.specs.declared.histories.Version.{Version}
-use Rattle.version_list.specs.Versions.{listed_keys, new_keys, versions_of, version_by, are_in_order}
+use Rattle.version_list.specs.Versions.{listed_keys, new_keys, versions_of, version_by, are_in_order, same_slot}
 use Rattle.record_store.specs.Store.{Store}
 use Rattle.record_store.specs.Answers.{IsSameStore}
 use Rattle.record_store.proofs.Adding.{order-stays, all-came_before}
-use Rattle.record_store.proofs.Holding.{still-held, short-of_memory, refused-by_table, added-to_both}
+use Rattle.record_store.proofs.Holding.{still-held, held-grown, short-of_memory, refused-by_table, added-to_both}
 use Rattle.record_store.proofs.RecordStore.commit.Goals as goal
 
 pub invariant_of-self : goal.invariant_of-self
@@ -69,3 +69,9 @@ returns-in-Ok-clause-added c = λ rs ks r stands id_is writes_is may.
     (λ k. c.add-in-Ok.ensures.added k ∙ ap₂ (λ (vs : List Version) (ws : List KeyWrite). vs ++ version_by c.in-Ok.slot c.args.id (write_of k ws))
     (c.make_room.ensures.same k) c.replace-moved.ensures.value)
     rs ks r stands id_is writes_is may (λ held allowed. c.in-Ok.ensures.added rs ks r held id_is allowed)
+
+pub invariant_of-self-in-Ok : goal.invariant_of-self-in-Ok
+invariant_of-self-in-Ok c =
+    held-grown c.self.inside c.args.self.now c.self.view_is c.add.new.self c.add-in-Ok.new.self c.self.invariant c.in-Ok.slot c.add.ensures.kept c.in-Ok.ensures.arrived.0
+    c.in-Ok.ensures.newest c.in-Ok.ensures.others c.add-in-Ok.ensures.order
+    (λ s. c.add-in-Ok.ensures.noted s ∙ ap (λ b. same_slot c.in-Ok.slot s || b) (c.make_room.ensures.noted s))

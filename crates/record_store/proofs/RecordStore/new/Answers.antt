@@ -17,7 +17,7 @@ invariant_of-result c = record {
   in_order = one-in_order c.in_ok-new.field-0.entries _ c.in_ok-new.ensures.stands.ids;
   versions =
       λ k. subst (λ vs. IsTrue (are_in_order (is_kept_at c.in_ok-new.field-0) (arrival_at c.in_ok-new.field-0) vs)) (sym (c.new-2.ensures.empty k)) refl;
-  noted = λ s kept arrived. absurd (let first = first-arrived c.in_ok-new.field-0 c.in_ok-new.ensures.stands s in omega arith);
+  noted = λ s t kept kept_t before. absurd (let first = first-arrived c.in_ok-new.field-0 c.in_ok-new.ensures.stands s in omega (arith, first, before));
 }
 
 pub returns-clause-stands : goal.returns-clause-stands
