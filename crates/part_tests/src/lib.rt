@@ -33,6 +33,8 @@ mod of_tardis_io;
 #[cfg(test)]
 mod of_trail_log;
 #[cfg(test)]
+mod of_twin_stores;
+#[cfg(test)]
 mod of_wire_item;
 #[cfg(test)]
 mod of_wire_questions;
