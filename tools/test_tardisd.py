@@ -504,6 +504,7 @@ class Words(unittest.TestCase):
         self.addCleanup(server.end)
         with server.connect() as connection:
             self.assertEqual(ask(connection, b"\x4a" + b"=last"), [b"\x15\x01"])
+            self.assertEqual(ask(connection, b"\x4b"), [b"\x15\x01"])
 
     def test_words_that_are_no_rules_are_refused(self):
         for rules in ((), ("cart",), ("cart/=sum",), ("=last,=set",)):
@@ -732,20 +733,33 @@ class Capacity(unittest.TestCase):
         told = b"\x46" + struct.pack(">HHIIHQHQI", 1, 1, 65_000, 65_000, 4_096, 1 << 30, 1, 1, 1)
         self.assertEqual(ask(connection, ABOUT), [told])
 
-    def test_many_kept_states_are_told_with_the_quietest_connection(self):
-        """Past half of what there is room for, and where all is taken, once each."""
+    def test_many_kept_states_are_told_with_the_connection_that_holds_the_floor(self):
+        """Past half of what there is room for, and where all is taken, once each: by the one that goes on asking at an old ceiling, and not by
+        the one that is silent, whose session follows."""
         server = Server("127.0.0.1:%d" % free_port(), ("--states", "100", "--tidy"))
         self.addCleanup(server.end)
-        quiet, busy = self.connect(server), self.connect(server)
-        name = "127.0.0.1:%d" % quiet.getsockname()[1]
-        self.assertEqual(ask(quiet, OPEN), [OPENED])
-        time.sleep(1.2)
-        ask(busy, OPEN_FOLLOWING, *[BEGIN, put(b"x", b"1"), COMMIT] * 64)
+        silent, busy = self.connect(server), self.connect(server)
+        name = "127.0.0.1:%d" % busy.getsockname()[1]
+        self.assertEqual(ask(silent, OPEN_FOLLOWING, BEGIN, put(b"x", b"0"), COMMIT)[0], OPENED)
+        self.assertEqual(ask(busy, OPEN), [OPENED])
+        for _ in range(12):
+            time.sleep(0.1)
+            ask(busy, STAT)
+        ask(busy, *[BEGIN, put(b"x", b"1"), COMMIT] * 64)
         line = first_line(server.process)
-        self.assertRegex(line, r"^tardisd: 65 of 100 states are kept: the connection from %s that has been silent for [1-9]" % re.escape(name))
+        held = r"^tardisd: %s of 100 states are kept: the session of the connection from %s holds the floor, which has been silent for [01] seconds: "
+        self.assertRegex(line, held % ("[56][0-9]", re.escape(name)))
         self.assertEqual(ask(busy, *[BEGIN, put(b"x", b"1"), COMMIT, ABORT] * 128)[-2], full(100))
-        self.assertRegex(first_line(server.process), r"^tardisd: 100 of 100 states are kept: ")
+        self.assertRegex(first_line(server.process), held % ("100", re.escape(name)))
         self.assertEqual(select.select([server.process.stderr], [], [], 0.5)[0], [])
+
+    def test_many_kept_states_are_told_where_no_session_is_open(self):
+        server = self.start("--states", "10", "--tidy")
+        connection = self.connect(server)
+        self.assertEqual(ask(connection, OPEN, *[BEGIN, put(b"x", b"1"), COMMIT] * 6, CLOSE)[-1], CLOSED)
+        ask(connection, *[STAT] * 64)
+        line = "tardisd: 7 of 10 states are kept: another site may hold the floor, or leaves that nobody joins\n"
+        self.assertEqual(first_line(server.process), line)
 
     def test_many_kept_states_are_told_where_nobody_collects(self):
         server = self.start("--states", "100")

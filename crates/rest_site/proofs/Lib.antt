@@ -1,5 +1,6 @@
 -- How what lasts is seen, put behind a log, and taken back.
 pub mod Counts
+pub mod Firsts
 pub mod Joined
 pub mod Newest
 pub mod Putting

@@ -1,8 +1,9 @@
 -- Each event leads to a site that follows, and what lasts of it is seen between the two.
-use Rattle.std.proofs.Common.{◌≡◌, ℕ, ◌==◌, List, [], ◌∷◌, Option, Some, None, IsTrue, IsFalse, inl, inr, refl, sym, ap, subst, ◌∙◌, arith, eqb-true}
+use Rattle.std.proofs.Common.{◌≡◌, ℕ, ◌==◌, false, if◌then◌else◌, List, [], ◌∷◌, Option, Some, None, IsTrue, IsFalse, inl, inr, refl, sym, ap, subst, ◌∙◌, arith, eqb-true}
 use Rattle.std.specs.Prelude.{option_to_list, option_map, OnOk, OnErr, Result, Ok, Err}
 use Rattle.std.specs.Option.{option_and_then}
-use Rattle.std.proofs.lemmas.Bool.{cond-true, cond-false, or_cases, ne_eqb}
+use Rattle.std.proofs.lemmas.Bool.{cond-true, cond-false, or_cases, ne_eqb, both_ways, false_from_ne_true}
+use Rattle.std.proofs.lemmas.Slice.Eq.{bytes_eq-Decides}
 use Rattle.std.proofs.lemmas.Option.{none-some}
 use Rattle.tardis_base.specs.declared.faults.NoMemory.{NoMemory}
 use Rattle.tardis_base.specs.declared.requests.Request.{Request}
@@ -29,6 +30,8 @@ use Rattle.session_core.specs.Core.{Core}
 use Rattle.session_core.specs.Stands.{StandsForSite}
 use Rattle.session_core.specs.Machine.{SiteStands}
 use Rattle.rest_site.specs.Notes.{Follows}
+use Rattle.rest_site.specs.declared.oldest_codes.TheConstants.{OLDEST}
+use Rattle.rest_site.specs.Oldest.{asks_oldest}
 use Rattle.rest_site.specs.Ruled.{ruled_bytes}
 
 -- the site follows by this, if by anything
@@ -99,33 +102,53 @@ same-bytes : (o : Option Lasting) → all_spelling (option_to_list o) ≡ all_sp
 same-bytes None = refl
 same-bytes (Some l) = refl
 
+-- nor is one about lives that for the oldest ceiling
+lives-tell-no-ceiling : (bytes : List ℕ) → IsTrue (is_of_lives bytes) → IsFalse (asks_oldest bytes)
+lives-tell-no-ceiling bytes t = false_from_ne_true (asks_oldest bytes) (λ asks.
+    let is : bytes ≡ OLDEST ∷ [] = (bytes_eq-Decides bytes (OLDEST ∷ [])).0 asks in
+    both_ways (is_of_lives bytes) (subst (λ (b : List ℕ). is_of_lives b ≡ false) (sym is) refl) t)
+
+-- a thing, or none, in bytes
+abbrev bytes_of : Option LastingThing → List ℕ
+bytes_of o = all_spellings (option_to_list o)
+
 module _ (a : Acquainted) (event : Event) where
   abbrev of-join : Option LastingThing
   of-join = option_map OfSite (lasting_of_join a.site event.1)
 
+  abbrev of-others : Option LastingThing
+  of-others = if is_join event.1 then of-join else thing_of_event a event
+
+  -- nothing lasts of the request for the oldest ceiling
+  pub oldest-bytes : IsTrue (asks_oldest event.1) → [] ≡ ruled_bytes a event
+  oldest-bytes t = ap bytes_of (sym (cond-true (asks_oldest event.1) None of-others t))
+
+  of-others-bytes : IsFalse (asks_oldest event.1) → bytes_of of-others ≡ ruled_bytes a event
+  of-others-bytes o = ap bytes_of (sym (cond-false (asks_oldest event.1) None of-others o))
+
   -- what lasts of a request to join leaves
-  pub join-bytes : IsTrue (is_join event.1) → all_spelling (option_to_list (lasting_of_join a.site event.1)) ≡ ruled_bytes a event
-  join-bytes t =
+  pub join-bytes : IsFalse (asks_oldest event.1) → IsTrue (is_join event.1) →
+      all_spelling (option_to_list (lasting_of_join a.site event.1)) ≡ ruled_bytes a event
+  join-bytes o t =
       same-bytes (lasting_of_join a.site event.1)
-      ∙ ap (λ (o : Option LastingThing). all_spellings (option_to_list o)) (sym (cond-true (is_join event.1) of-join (thing_of_event a event) t))
+      ∙ (ap bytes_of (sym (cond-true (is_join event.1) of-join (thing_of_event a event) t)) ∙ of-others-bytes o)
 
   -- of all others
-  pub other-bytes : IsFalse (is_join event.1) → all_spellings (option_to_list (thing_of_event a event)) ≡ ruled_bytes a event
-  other-bytes f =
-      ap (λ (o : Option LastingThing). all_spellings (option_to_list o)) (sym (cond-false (is_join event.1) of-join (thing_of_event a event) f))
+  pub other-bytes : IsFalse (asks_oldest event.1) → IsFalse (is_join event.1) → bytes_of (thing_of_event a event) ≡ ruled_bytes a event
+  other-bytes o f = ap bytes_of (sym (cond-false (is_join event.1) of-join (thing_of_event a event) f)) ∙ of-others-bytes o
 
   -- of one that is neither to join leaves nor about lives
-  pub site-bytes : IsFalse (is_of_lives event.1) → IsFalse (is_join event.1) →
+  pub site-bytes : IsFalse (is_of_lives event.1) → IsFalse (asks_oldest event.1) → IsFalse (is_join event.1) →
       all_spelling (option_to_list (lasting_of_event a.site event)) ≡ ruled_bytes a event
-  site-bytes f g =
+  site-bytes f o g =
       same-bytes (lasting_of_event a.site event)
-      ∙ (ap (λ (o : Option LastingThing). all_spellings (option_to_list o))
+      ∙ (ap bytes_of
       (sym (cond-false (is_of_lives event.1) (option_map OfLives (about_lives a event.1).1) (option_map OfSite (lasting_of_event a.site event)) f))
-      ∙ other-bytes g)
+      ∙ other-bytes o g)
 
   -- of one about lives
-  pub lives-bytes : IsTrue (is_of_lives event.1) → all_spellings (option_to_list (option_map OfLives (about_lives a event.1).1)) ≡ ruled_bytes a event
+  pub lives-bytes : IsTrue (is_of_lives event.1) → bytes_of (option_map OfLives (about_lives a event.1).1) ≡ ruled_bytes a event
   lives-bytes t =
-      ap (λ (o : Option LastingThing). all_spellings (option_to_list o))
+      ap bytes_of
       (sym (cond-true (is_of_lives event.1) (option_map OfLives (about_lives a event.1).1) (option_map OfSite (lasting_of_event a.site event)) t))
-      ∙ other-bytes (lives-dont-join event.1 t)
+      ∙ other-bytes (lives-tell-no-ceiling event.1 t) (lives-dont-join event.1 t)

@@ -3,4 +3,6 @@ pub mod Stands
 pub mod Notes
 pub mod Takings
 pub mod Joinings
+pub mod Oldest
+pub mod Ceilings
 pub mod Ruled

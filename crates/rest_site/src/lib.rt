@@ -1,7 +1,7 @@
-//! A site with the lives that it knows, which joins leaves by rules where it is asked to, and can end and start again: it puts what
-//! lasts of each request behind a log, and takes back what stands in one.
+//! A site with the lives that it knows, which joins leaves by rules and tells its oldest ceiling where it is asked to, and can end and
+//! start again: it puts what lasts of each request behind a log, and takes back what stands in one.
 //!
-//! The rules, and how what lasts is spelled, are stated in `docs/MODEL.md`, 'What lasts', 'Lives' and 'Joins by rules'.
+//! The rules, and how what lasts is spelled, are stated in `docs/MODEL.md`, 'What lasts', 'Lives', 'Joins by rules' and 'The oldest ceiling'.
 #![tactic(auto)]
 
 ghost use Rattle.std.specs.Prelude.{◌≡◌, ◌≤◌, length, IsTrue, IfOk};
@@ -15,6 +15,8 @@ ghost use Rattle.rest_site.specs.Stands.{AcquaintedStands, opened_alone};
 mod joins;
 mod machines;
 mod notes;
+mod oldest;
+pub mod oldest_codes;
 mod puts;
 mod serving;
 mod takes;

@@ -2,6 +2,7 @@
 
 use crate::RestSite;
 use crate::joins::join;
+use crate::oldest::{asks_oldest, tell_oldest};
 use crate::puts::put_life;
 use crate::serving::{serve, serve_join};
 use crate::takes::take_all;
@@ -26,6 +27,9 @@ impl Machine for RestSite {
     fn act(&mut self, actor: u16, request: &[u8], out: &mut ReplyBuf) -> Result<(), NoMemory> {
         if is_of_lives(request) {
             let _ = self.meet(request, out);
+            Ok(())
+        } else if asks_oldest(request) {
+            tell_oldest(&self.core, out);
             Ok(())
         } else if is_join(request) {
             join(&mut self.core, self.alloc, request, out)
@@ -63,6 +67,9 @@ impl Resting for RestSite {
         if is_of_lives(request) {
             let new = self.meet(request, out);
             put_life(&new, log);
+            Ok(())
+        } else if asks_oldest(request) {
+            tell_oldest(&self.core, out);
             Ok(())
         } else if is_join(request) {
             serve_join(&mut self.core, self.alloc, request, out, log)

@@ -4,11 +4,11 @@ use Rattle.plain_site.specs.RowWords.{site_after, lone_site}
 use Rattle.plain_site.specs.RowByteWords.{hex}
 use Rattle.plain_questions.specs.RowsOfReads.{parted}
 use Rattle.site_lives.specs.Acquainted.{unacquainted}
-use Rattle.rest_site.specs.Ruled.{ruled_machine}
+use Rattle.rest_site.specs.Ruled.{ruled_machine, ruled_bytes}
 use Rattle.site_doors.specs.Rules.{is_let_in, told_at, is_sure_at}
 
--- All requests, Tidy among them; a code of no request is the site's to answer, and a question is answered at the door. To join leaves
--- is no request that comes in, and no question.
+-- All requests, Tidy among them; a code of no request is the site's to answer, and a question is answered at the door. To join leaves, and
+-- to ask which ceiling is the oldest, is no request that comes in, and no question.
 abbrev pub AllComesInByTheFirstDoor : Type 0
 AllComesInByTheFirstDoor =
     let site = unacquainted (site_after lone_site parted) in
@@ -21,6 +21,8 @@ AllComesInByTheFirstDoor =
     × (told_at 0 site (hex "ff") ≡ hex "15 01")
     × (is_let_in 0 (hex "4a") ≡ false)
     × (told_at 0 site (hex "4a") ≡ hex "15 01")
+    × (is_let_in 0 (hex "4b") ≡ false)
+    × (told_at 0 site (hex "4b") ≡ hex "15 01")
 
 -- a Commit comes in, and a Tidy doesn't; y at 1.1 is told, and the sessions aren't
 abbrev pub ClientsComeInByTheSecondDoor : Type 0
@@ -29,9 +31,11 @@ ClientsComeInByTheSecondDoor =
     (is_let_in 1 (hex "06 00 0000") ≡ true)
     × (is_let_in 1 (hex "0f 0001") ≡ false)
     × (is_let_in 1 (hex "4a") ≡ false)
+    × (is_let_in 1 (hex "4b") ≡ false)
     × (is_let_in 1 [] ≡ true)
     × (told_at 1 site (hex "0f 0001") ≡ hex "15 1b 0f")
     × (told_at 1 site (hex "4a") ≡ hex "15 1b 4a")
+    × (told_at 1 site (hex "4b") ≡ hex "15 1b 4b")
     × (told_at 1 site (hex "40 0001 00000001 01 79") ≡ hex "40 00")
     × (told_at 1 site (hex "45 00") ≡ hex "15 1b 45")
 
@@ -42,6 +46,8 @@ PeersComeInByTheThirdDoor =
     (is_let_in 2 (hex "13 0001 00000000") ≡ true)
     × (is_let_in 2 (hex "01 00") ≡ false)
     × (is_let_in 2 (hex "4a") ≡ false)
+    × (is_let_in 2 (hex "4b") ≡ false)
+    × (told_at 2 site (hex "4b") ≡ hex "15 1b 4b")
     × (told_at 2 site (hex "01 00") ≡ hex "15 1b 01")
     × (told_at 2 site (hex "46") ≡ hex "46 0001 0001 00004000 00001000 0100 0000000040000000 0001 0000000000000004 00000004")
     × (told_at 2 site (hex "41 0001 00000001 00 00") ≡ hex "15 1b 41")
@@ -73,6 +79,19 @@ LivesAreToldAtEachDoor =
     × (told_at 2 site (hex "48 47 0002 0002 bbbbbbbbbbbbbbbbbbbbbbbbbbbbbbbb") ≡ hex "15 1b 48")
     × (is_let_in 0 (hex "49") ≡ false)
     × (told_at 0 unborn (hex "49 aaaaaaaaaaaaaaaaaaaaaaaaaaaaaaaa") ≡ hex "15 01")
+
+-- What a server asks without a door: where no session is open; where two have their ceilings at the root; once the first moved its own down
+-- to 1.2, and the second then to 1.1. With a field it is no request. Nothing lasts of it.
+abbrev pub TheOldestCeilingIsTold : Type 0
+TheOldestCeilingIsTold =
+    let site = unacquainted (site_after lone_site parted) in
+    let moved = ruled_machine.step site (1, hex "0c 0001 00000002") in
+    (ruled_machine.reply (unacquainted lone_site) (0, hex "4b") ≡ hex "4b")
+    × (ruled_machine.reply site (0, hex "4b") ≡ hex "4b 0001")
+    × (ruled_machine.reply moved (0, hex "4b") ≡ hex "4b 0002")
+    × (ruled_machine.reply (ruled_machine.step moved (2, hex "0c 0001 00000001")) (0, hex "4b") ≡ hex "4b 0002")
+    × (ruled_machine.reply site (0, hex "4b 00") ≡ hex "15 01")
+    × (ruled_bytes moved (0, hex "4b") ≡ [])
 
 -- refusals, bytes that spell no question, the question Site, and who the site is
 abbrev pub SomeAnswersAreSure : Type 0

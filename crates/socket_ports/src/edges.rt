@@ -7,10 +7,10 @@ use crate::doors::{Door, is_passing};
 use crate::idles::Idle;
 use crate::lines::Line;
 use crate::plugs::{Plug, Work};
-use crate::rooms::Room;
+use crate::rooms::{Room, RoomPlan};
 use crate::slots::Slots;
 use crate::streams::Stream;
-use crate::watches::{Quiet, Watch};
+use crate::watches::{Holder, Watch};
 use hub::{Connection, PeerNews, Ports, Ready, SLOTS};
 use mio::{Events, Poll, Token};
 use site_peers::{Failure, Peer};
@@ -89,14 +89,14 @@ pub struct SocketPorts<'a, R, W> {
     /// The slot of which a read was offered, and how many bytes waited to be written to it then.
     heard: Option<(usize, usize)>,
     clock: Stopwatch,
-    /// What was told of how many states are kept.
+    /// What was told of how many states are kept, and of who holds the floor.
     room: Room,
     watch: W,
 }
 
 impl<'a, R: Net + Clock, W: Watch + Drop> SocketPorts<'a, R, W> {
     /// The connections that will come through these doors, so many at once, and those to peers at these addresses. A connection that
-    /// asked nothing for so many seconds is ended, within a second behind that. The site may keep so many states.
+    /// asked nothing for so many seconds is ended, within a second behind that. The room of the site is told of as `room` says.
     pub fn new(
         rt: &'a R,
         alloc: Global,
@@ -104,7 +104,7 @@ impl<'a, R: Net + Clock, W: Watch + Drop> SocketPorts<'a, R, W> {
         peers: Vec<String>,
         connections: u16,
         idle: Option<u32>,
-        states: u32,
+        room: RoomPlan,
         watch: W,
     ) -> io::Result<SocketPorts<'a, R, W>> {
         let poll = Poll::new(rt)?;
@@ -147,7 +147,7 @@ impl<'a, R: Net + Clock, W: Watch + Drop> SocketPorts<'a, R, W> {
             idle,
             heard: None,
             clock: Stopwatch::new(rt)?,
-            room: Room::new(states),
+            room: Room::new(room),
             watch,
         })
     }
@@ -437,24 +437,17 @@ impl<'a, R: Net + Clock, W: Watch + Drop> SocketPorts<'a, R, W> {
         self.clock.look(self.rt);
     }
 
-    /// The connection that was silent for longest, if there is one.
-    fn quietest(&self) -> Option<Quiet> {
-        let now = self.clock.now();
-        let mut longest = None;
-        let mut millis = 0;
-        for plug in self.plugs.iter() {
-            if let Some(plug) = plug {
-                let silent = plug.silent_for(now);
-                if longest.is_none() || silent > millis {
-                    millis = silent;
-                    longest = Some(Quiet {
-                        address: plug.stream().address(),
-                        seconds: silent / 1_000,
-                    });
-                }
-            }
+    /// The connection whose session holds the floor, as it was told last; none where no session did, or where that one is gone. The hub
+    /// asks for the connection in a slot as the actor that is the slot's number and one, and that is its session.
+    fn holder(&self) -> Option<Holder> {
+        let slot = self.room.holder()?.checked_sub(1)?;
+        match self.plugs.get(slot as usize) {
+            Some(Some(plug)) => Some(Holder {
+                address: plug.stream().address(),
+                seconds: plug.silent_for(self.clock.now()) / 1_000,
+            }),
+            _ => None,
         }
-        longest
     }
 
     /// Passes over the connections that have nothing to do any more.
@@ -646,10 +639,11 @@ impl<R: Net + Clock, W: Watch + Drop> Ports for SocketPorts<'_, R, W> {
     }
 
     fn note_reply(&mut self, reply: &[u8]) {
+        self.room.note_holder(reply);
         if let Ok(Reply::Stat { kept, .. }) = read_reply(self.alloc, reply) {
             if self.room.is_news(kept) {
-                let quietest = self.quietest();
-                self.watch.crowded(kept, self.room.most(), quietest);
+                let holder = self.holder();
+                self.watch.crowded(kept, self.room.most(), holder);
             }
         }
     }

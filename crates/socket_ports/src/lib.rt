@@ -19,4 +19,5 @@ mod watches;
 
 pub use doors::{Door, DoorFault, open_door, path_of};
 pub use edges::SocketPorts;
-pub use watches::{Quiet, Watch};
+pub use rooms::RoomPlan;
+pub use watches::{Holder, Watch};

@@ -4,11 +4,12 @@ use site_peers::Failure;
 use std::io;
 use std::net::SocketAddr;
 
-/// A connection that asked nothing, and took no bytes, for longer than all others.
+/// The connection whose session holds the floor.
 #[derive(Clone, Copy)]
-pub struct Quiet {
+pub struct Holder {
     /// Where it comes from, if it is one over TCP.
     pub address: Option<SocketAddr>,
+    /// For so many seconds it asked nothing, and took no bytes.
     pub seconds: u64,
 }
 
@@ -23,6 +24,6 @@ pub trait Watch {
     fn failed(&mut self, address: &str, before: bool, why: Failure, said: Option<io::ErrorKind>);
 
     /// So many states are kept, which are more than half of as many as may be, or as many; each is told once, until they were fewer than a
-    /// quarter. The quietest connection may be what holds them.
-    fn crowded(&mut self, kept: u32, most: u32, quietest: Option<Quiet>);
+    /// quarter. The floor waits for the session of this connection, if for any.
+    fn crowded(&mut self, kept: u32, most: u32, holder: Option<Holder>);
 }

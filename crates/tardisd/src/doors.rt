@@ -3,11 +3,11 @@
 use crate::peers::PeersTold;
 use crate::words::{Faulty, Reading, Served};
 use command_words::{DaemonPlan, DoorPlan};
-use socket_ports::{Door, DoorFault, SocketPorts, open_door, path_of};
+use socket_ports::{Door, DoorFault, RoomPlan, SocketPorts, open_door, path_of};
 use std::net::SocketAddr;
 use std::time::Instant;
 use std::{fs, io};
-use tardisd_main::{Doors, FoundSite, GateFault, number_of};
+use tardisd_main::{Doors, FoundSite, GateFault, OLDEST, number_of};
 
 /// Doors over sockets of the system. That the site is served is told by a line on standard error, so that whoever started
 /// the program knows that clients may come; and so is a door that can't be opened.
@@ -68,6 +68,10 @@ impl<'a> SocketDoors<'a> {
         }
         let watch = PeersTold::new(self.rt, plan.tidy);
         let connections = plan.capacity.connections;
+        let room = RoomPlan {
+            states: plan.capacity.states,
+            oldest: OLDEST,
+        };
         SocketPorts::new(
             self.rt,
             self.rt.alloc(),
@@ -75,7 +79,7 @@ impl<'a> SocketDoors<'a> {
             peers,
             connections,
             plan.idle,
-            plan.capacity.states,
+            room,
             watch,
         )
     }

@@ -2,7 +2,7 @@
 //! keeps many states; and what is to be done.
 
 use site_peers::{Failure, NO_VERDICT};
-use socket_ports::{Quiet, Watch};
+use socket_ports::{Holder, Watch};
 use std::{fmt, io};
 use wire_lives::life_codes::{ANOTHER_LIFE, NO_INTRODUCTION, NO_LIFE, OTHER_SITES, OWN_NUMBER};
 
@@ -36,12 +36,12 @@ impl Watch for PeersTold<'_> {
         let _ = self.rt.eprintln(lost);
     }
 
-    fn crowded(&mut self, kept: u32, most: u32, quietest: Option<Quiet>) {
+    fn crowded(&mut self, kept: u32, most: u32, holder: Option<Holder>) {
         let crowded = Crowded {
             kept,
             most,
             tidy: self.tidy,
-            quietest,
+            holder,
         };
         let _ = self.rt.eprintln(crowded);
     }
@@ -53,7 +53,7 @@ struct Crowded {
     kept: u32,
     most: u32,
     tidy: bool,
-    quietest: Option<Quiet>,
+    holder: Option<Holder>,
 }
 
 impl fmt::Display for Crowded {
@@ -62,23 +62,23 @@ impl fmt::Display for Crowded {
             kept,
             most,
             tidy,
-            quietest,
+            holder,
         } = *self;
         write!(f, "tardisd: {kept} of {most} states are kept: ")?;
         if !tidy {
             return write!(f, "nobody collects them: start it again with --tidy");
         }
-        match quietest {
-            Some(quiet) => {
-                write!(f, "the connection ")?;
-                match quiet.address {
+        match holder {
+            Some(holder) => {
+                write!(f, "the session of the connection ")?;
+                match holder.address {
                     Some(address) => write!(f, "from {address}")?,
                     None => write!(f, "over a Unix socket")?,
                 }
                 write!(
                     f,
-                    " that has been silent for {} seconds, longer than all others, may hold the floor: end it, or start with --idle SECONDS",
-                    quiet.seconds
+                    " holds the floor, which has been silent for {} seconds: end it, or start with --idle SECONDS",
+                    holder.seconds
                 )
             }
             None => write!(

@@ -1,5 +1,5 @@
 -- What is served from a site.
-use Rattle.std.specs.Prelude.{ℕ, Bool, true, false, List, [], ◌∷◌, length, Option, Some, None}
+use Rattle.std.specs.Prelude.{ℕ, Bool, true, false, List, [], ◌∷◌, ◌++◌, length, Option, Some, None}
 use Rattle.tardis_base.specs.Plain.{Event}
 use Rattle.tardis_base.specs.declared.requests.Request.TheVariants.{Stat, RaiseAuto, Tidy}
 use Rattle.tardis_base.specs.declared.replies.Reply.TheVariants.{Tidied}
@@ -17,6 +17,7 @@ use Rattle.hub.specs.Runs.{IsRun}
 use Rattle.plain_site.specs.Site.{opening}
 use Rattle.plain_site.specs.Sound.{IsSound}
 use Rattle.site_lives.specs.Acquainted.{Acquainted, unacquainted}
+use Rattle.rest_site.specs.declared.oldest_codes.TheConstants.{OLDEST}
 use Rattle.rest_site.specs.Ruled.{ruled_machine}
 use Rattle.site_doors.specs.Rules.{site_doors}
 
@@ -38,15 +39,15 @@ slow_rule requests full = record {
   later = 64;
 }
 
--- how much is kept, which the edge is told of
-abbrev pub watching : List ℕ
-watching = request_spelling Stat
+-- which session's ceiling is the oldest, and how much is kept: the edge is told of both, so it knows the one when it is told the other
+abbrev pub watching : List (List ℕ)
+watching = (OLDEST ∷ []) ∷ request_spelling Stat ∷ []
 
--- That is asked alone; or with `--tidy` the floor is raised behind it and then up to 64 states are collected, and again in the next turn where
--- as many were.
+-- These are asked alone; or with `--tidy` the floor is raised behind them and then up to 64 states are collected, and again in the next turn
+-- where as many were.
 abbrev pub tidy_rule : (tidy : Bool) → UpkeepRule
-tidy_rule false = slow_rule (watching ∷ []) []
-tidy_rule true = slow_rule (watching ∷ request_spelling RaiseAuto ∷ request_spelling (Tidy 64) ∷ []) (reply_spelling (Tidied 64))
+tidy_rule false = slow_rule watching []
+tidy_rule true = slow_rule (watching ++ request_spelling RaiseAuto ∷ request_spelling (Tidy 64) ∷ []) (reply_spelling (Tidied 64))
 
 -- After each turn in which a reply was given that counts these are asked; and again behind the next turn where the last of them joined two
 -- leaves. Where it left leaves apart, they are asked again once 64 replies were given that count.
@@ -64,8 +65,8 @@ joining_rule requests = record {
 -- With rules two leaves are joined by them; with `--tidy` too the floor is raised before that, and up to 4,096 states are collected.
 abbrev pub upkeep_rule : (tidy : Bool) → (rules : Option (List ℕ)) → Option UpkeepRule
 upkeep_rule tidy None = Some (tidy_rule tidy)
-upkeep_rule false (Some rules) = Some (joining_rule (watching ∷ (JOIN ∷ rules) ∷ []))
-upkeep_rule true (Some rules) = Some (joining_rule (watching ∷ request_spelling RaiseAuto ∷ request_spelling (Tidy 4096) ∷ (JOIN ∷ rules) ∷ []))
+upkeep_rule false (Some rules) = Some (joining_rule (watching ++ (JOIN ∷ rules) ∷ []))
+upkeep_rule true (Some rules) = Some (joining_rule (watching ++ request_spelling RaiseAuto ∷ request_spelling (Tidy 4096) ∷ (JOIN ∷ rules) ∷ []))
 
 -- with as many connections as are asked for; from the peers that are asked for, and as often as is asked
 abbrev pub scope_of : Daemon → Scope

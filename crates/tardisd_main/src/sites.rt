@@ -16,13 +16,16 @@ use command_words::DaemonPlan;
 use hub::{End, Ports, Scope, Upkeep, serve};
 use join_rules::join_codes;
 use rest_machine::Settling;
-use rest_site::RestSite;
+use rest_site::{RestSite, oldest_codes};
 use site_doors::AskedSite;
 use std::alloc::Global;
 use std::hash::RandomState;
 use tardis_base::{NoMemory, ReplyBuf};
 use wire_lives::life_codes;
 use wire_talk::{reply_codes, request_codes};
+
+/// The request Oldest: the edge is told which session's ceiling is the oldest, before it is told how much is kept.
+const ASK_OLDEST: [u8; 1] = [oldest_codes::OLDEST];
 
 /// The request Stat, whose reply the edge is told of.
 const STAT: [u8; 1] = [request_codes::STAT];
@@ -56,11 +59,11 @@ const LEFT_APART: [u8; 2] = [join_codes::JOIN, join_codes::LEFT];
 
 /// Serves the connections of an edge as the site at the plan's place, which opens with the root alone and then begins this life: each
 /// connection is an actor, and its requests and questions are answered at its door, as `hub::serve` says. From the plan's peers it fetches as
-/// often as that says. Keys are found by hashing with this seed. For each 64 replies that count the edge is told how much is kept. With `tidy` the floor is raised and up to 64 closed states are
-/// collected behind that, as actor 0 would ask it; and where as many were collected, once
-/// more after the next turn of the edge. With rules two leaves are joined by them after each turn in which a
-/// reply was given that counts; and where they settled no two, once 64 such replies were given. Without memory for the site or the buffers nothing is
-/// done.
+/// often as that says. Keys are found by hashing with this seed. For each 64 replies that count the edge is told which session's ceiling is the
+/// oldest, and how much is kept. With `tidy` the floor is raised and up to 64 closed states are collected behind that, as actor 0 would ask it;
+/// and where as many were collected, once more after the next turn of the edge. With rules all this is done, and two leaves are joined by
+/// them, after each turn in which a reply was given that counts; and where they settled no two, once 64 such replies were given. Without
+/// memory for the site or the buffers nothing is done. Of what is asked so the oldest ceiling costs as much as there are open sessions.
 pub fn serve_place<P: Ports>(
     alloc: Global,
     keys: RandomState,
@@ -153,7 +156,7 @@ fn serve_ruled<M: Settling, P: Ports>(
 {
     let join = join_request(alloc, rules)?;
     if plan.tidy {
-        let requests: [&[u8]; 4] = [&STAT, &RAISE_AUTO, &TIDY_MANY, join.as_slice()];
+        let requests: [&[u8]; 5] = [&ASK_OLDEST, &STAT, &RAISE_AUTO, &TIDY_MANY, join.as_slice()];
         serve(
             alloc,
             machine,
@@ -162,7 +165,7 @@ fn serve_ruled<M: Settling, P: Ports>(
             scope_of(plan),
         )
     } else {
-        let requests: [&[u8]; 2] = [&STAT, join.as_slice()];
+        let requests: [&[u8]; 3] = [&ASK_OLDEST, &STAT, join.as_slice()];
         serve(
             alloc,
             machine,
@@ -250,8 +253,8 @@ fn upkeep_of(tidy: bool) -> Option<Upkeep<'static>>
     ensures often { IfSome (option_map rule_of result) (λ rule. (0 < rule.after) × (0 < rule.later)) }
 {
     if tidy {
-        Some(slow_upkeep(&[&STAT, &RAISE_AUTO, &TIDY], &FULL))
+        Some(slow_upkeep(&[&ASK_OLDEST, &STAT, &RAISE_AUTO, &TIDY], &FULL))
     } else {
-        Some(slow_upkeep(&[&STAT], &[]))
+        Some(slow_upkeep(&[&ASK_OLDEST, &STAT], &[]))
     }
 }
