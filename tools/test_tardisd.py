@@ -672,10 +672,10 @@ class OverTcp(Connections, unittest.TestCase):
 class Capacity(unittest.TestCase):
     """Room for as much as the words say."""
 
-    def start(self, *words):
+    def start(self, *words, program=()):
         folder = tempfile.mkdtemp()
         self.addCleanup(shutil.rmtree, folder)
-        server = Server("unix:" + os.path.join(folder, "s"), words)
+        server = Server("unix:" + os.path.join(folder, "s"), words, program)
         self.addCleanup(server.end)
         return server
 
@@ -710,11 +710,30 @@ class Capacity(unittest.TestCase):
         self.assertEqual([reply[0] for reply in told[:2]], [8, 8])
         self.assertEqual(told[2], full(3))
 
+    def test_a_file_opens_under_larger_limits_and_under_no_smaller_ones(self):
+        folder = tempfile.mkdtemp()
+        self.addCleanup(shutil.rmtree, folder)
+        address, path = "unix:" + os.path.join(folder, "s"), os.path.join(folder, "file")
+        small, large = ("--file", path, "--states", "3", "--sessions", "2"), ("--file", path, "--states", "5", "--sessions", "9")
+
+        def commit(server, count):
+            with server.connect() as connection:
+                self.assertEqual(ask(connection, OPEN), [OPENED])
+                return [ask(connection, b"\x02\x00", put(b"x", b"%d" % n), COMMIT)[2][:1] for n in range(count)]
+
+        server = Server(address, small)
+        self.assertEqual(commit(server, 3), [b"\x08", b"\x08", b"\x15"])
+        server.end()
+        server = Server(address, large)
+        self.assertEqual(commit(server, 3), [b"\x08", b"\x08", b"\x15"])
+        server.end()
+        status, told, line = run_words("--listen", address, *small)
+        self.assertEqual((status, told), (13, ""))
+        self.assertIn("start it with the limits that it had", line)
+
     def test_memory_that_the_system_bounds_is_told_as_wanting(self):
         """What would take more is answered so, changes nothing, and all is read on (`tools/test_memory.py` has more of it)."""
-        server = self.start()
-        subprocess.run(["prlimit", "--pid", str(server.process.pid), "--as=67108864"], check=True)
-        connection = self.connect(server)
+        connection = self.connect(self.start("--memory", "64", program=(os.path.join(TOP, "tools", "launch.sh"), TARDISD)))
         self.assertEqual(ask(connection, OPEN_FOLLOWING), [OPENED])
         taken = 0
         for place in range(4000):
