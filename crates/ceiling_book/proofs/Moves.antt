@@ -15,7 +15,7 @@ use Rattle.tardis_base.specs.declared.ids.Slot.{Slot}
 use Rattle.tardis_base.specs.declared.records.Record.{Record}
 use Rattle.tardis_base.specs.Ids.{root}
 use Rattle.plain_dag.specs.Above.{is_above}
-use Rattle.plain_dag.specs.Floors.{Session, Floor, opening_floor, with_floor}
+use Rattle.plain_dag.specs.Floors.{Session, Floor, unpromised, opening_floor, with_floor}
 use Rattle.state_dag.specs.Table.{Table, id_at, is_slot_above}
 use Rattle.state_dag.specs.Stands.{Stands}
 use Rattle.state_dag.proofs.Standing.{slots-tell}
@@ -24,7 +24,7 @@ use Rattle.ceiling_book.specs.declared.parts.OpenSession.{OpenSession}
 use Rattle.ceiling_book.specs.declared.parts.KnownFloor.{KnownFloor}
 use Rattle.ceiling_book.specs.Book.{Book, session_of, sessions_of, known_floor, floors_of, own_floor}
 use Rattle.ceiling_book.specs.Places.{AllPlaces, PlacesBesideFloors, IsAt, ArePlaced}
-use Rattle.ceiling_book.specs.Floors.{holder, slot_holder, unpromised, unpromised_at, with_floors_at}
+use Rattle.ceiling_book.specs.Floors.{holder, slot_holder, unpromised_at, with_floors_at}
 use Rattle.ceiling_book.proofs.Entries.{mapped}
 
 -- ===== Every floor

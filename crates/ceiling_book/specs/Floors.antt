@@ -27,21 +27,13 @@ pub record KeepsSessions (old new : Book) : Type 0 where
   pub sessions : new.sessions ≡ old.sessions
   pub sites : length new.floors ≡ length old.floors
 
--- a floor at the state, before any promise of its site
-abbrev pub unpromised : StateId → Floor
-unpromised x = record { state = x; number = 0; stated = 0 }
-
--- the same, with its slot
+-- a floor at the place, before any promise of its site
 abbrev pub unpromised_at : Place → KnownFloor
 unpromised_at place = record { place = place; number = 0; stated = 0 }
 
 -- the book with every floor at this place, as before any promise
 abbrev pub with_floors_at : Place → Book → Book
 with_floors_at place book = record book { floors = map (λ (f : KnownFloor). unpromised_at place) book.floors }
-
--- no site has promised anything, and each floor is at or above the state
-abbrev pub are_unpromised_above : List Record → List Floor → StateId → Bool
-are_unpromised_above rs floors x = list_all (λ (f : Floor). f.number == 0 && is_above rs f.state x) floors
 
 -- the session's ceiling was at or above x and is x now; or it wasn't, and the book is as before
 abbrev pub CeilingSetIn : List Record → Book → Book → ℕ → Session → StateId → Result Unit CeilingBack → Type 0

@@ -6,14 +6,14 @@ ghost use Rattle.tardis_base.specs.declared.records.Record.{Record};
 ghost use Rattle.tardis_base.specs.Ids.{same_id, is_among};
 ghost use Rattle.plain_dag.specs.Above.{is_above, is_proper_ancestor};
 ghost use Rattle.plain_dag.specs.Entries.{entry_of};
-ghost use Rattle.plain_dag.specs.Floors.{Session, Floor, automatic_floor, is_closed, is_above_ceilings, is_above_floors};
+ghost use Rattle.plain_dag.specs.Floors.{Session, Floor, unpromised, are_unpromised_above, automatic_floor, is_closed, is_above_ceilings, is_above_floors};
 ghost use Rattle.plain_dag.specs.Collection.{kept_states};
 ghost use Rattle.state_dag.specs.Table.{Table, id_at, is_slot};
 ghost use Rattle.state_dag.specs.Stands.{Stands};
 ghost use Rattle.ceiling_book.specs.Book.{sessions_of, floors_of, own_floor, is_open};
 ghost use Rattle.ceiling_book.specs.Places.{PlacesBesideFloors, IsSlotOf, IsAt, HasStandIn, AreSlots, ArePlaced};
 ghost use Rattle.ceiling_book.specs.Answers.{KeepsRest};
-ghost use Rattle.ceiling_book.specs.Floors.{KeepsSessions, CeilingSetIn, FloorMoved, RaisedIn, AutoRaisedIn, unpromised, with_floors_at, are_unpromised_above};
+ghost use Rattle.ceiling_book.specs.Floors.{KeepsSessions, CeilingSetIn, FloorMoved, RaisedIn, AutoRaisedIn, with_floors_at};
 ghost use Rattle.ceiling_book.specs.Floors.{slot_holder, each_ceiling};
 
 use crate::CeilingBook;

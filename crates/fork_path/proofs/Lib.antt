@@ -7,4 +7,3 @@ pub mod TileLists
 pub mod TileViews
 pub mod TileMerges
 pub mod TilePaths
-pub mod TileChecks

@@ -1,5 +1,5 @@
 -- Sessions and their ceilings, sites and their floors, and which states are closed.
-use Rattle.std.specs.Prelude.{ℕ, Bool, ◌-◌, ◌&&◌, not, List, find, Option, unwrap_or, slice_get, slice_set, if◌then◌else◌}
+use Rattle.std.specs.Prelude.{ℕ, Bool, ◌-◌, ◌==◌, ◌&&◌, not, List, find, Option, unwrap_or, slice_get, slice_set, if◌then◌else◌}
 use Rattle.std.specs.List.{list_all}
 use Rattle.tardis_base.specs.declared.ids.StateId.{StateId}
 use Rattle.tardis_base.specs.declared.records.Consent.{Consent}
@@ -45,6 +45,10 @@ pub record Floor : Type 0 where
   pub number : ℕ
   pub stated : ℕ
 
+-- a floor at the state, before any promise of its site
+abbrev pub unpromised : StateId → Floor
+unpromised x = record { state = x; number = 0; stated = 0 }
+
 -- before any consent
 abbrev pub opening_floor : Floor
 opening_floor = record { state = root; number = 0; stated = 0 }
@@ -68,6 +72,14 @@ is_closed rs floors x = list_all (λ f. is_proper_ancestor rs x f.state) floors
 -- the state is at or above every floor
 abbrev pub is_above_floors : List Record → List Floor → StateId → Bool
 is_above_floors rs floors x = list_all (λ f. is_above rs x f.state) floors
+
+-- no promise of the floor's site was met, and it is at or above the state
+abbrev pub is_unpromised_above : List Record → StateId → Floor → Bool
+is_unpromised_above rs x f = f.number == 0 && is_above rs f.state x
+
+-- no site has promised anything, and each floor is at or above the state
+abbrev pub are_unpromised_above : List Record → List Floor → StateId → Bool
+are_unpromised_above rs floors x = list_all (is_unpromised_above rs x) floors
 
 -- the automatic floor: the last-arrived state that the floor is at or above and that is at or above every ceiling
 abbrev pub automatic_floor : List Record → StateId → Sessions → StateId

@@ -6,17 +6,18 @@ use Rattle.std.proofs.lemmas.Bool.{and_parts, and_from, cond-false, false_from_n
 use Rattle.tardis_base.specs.declared.ids.StateId.{StateId}
 use Rattle.tardis_base.specs.declared.records.Record.{Record}
 use Rattle.tardis_base.specs.declared.records.Limits.{Limits}
+use Rattle.tardis_base.specs.Ids.{root}
 use Rattle.tardis_base.specs.Valid.{is_within}
 use Rattle.plain_dag.specs.States.{root_record, count_of_site}
 use Rattle.plain_dag.specs.Above.{is_above}
 use Rattle.plain_dag.specs.Begin.{last_arrived}
-use Rattle.plain_dag.specs.Floors.{Floor, Sessions, opening_floor}
+use Rattle.plain_dag.specs.Floors.{Floor, Sessions, opening_floor, unpromised, is_unpromised_above, are_unpromised_above}
 use Rattle.plain_dag.specs.Rows.{next_below}
 use Rattle.plain_dag.proofs.Ids.{same_test}
 use Rattle.plain_dag.proofs.Known.{count-newest}
 use Rattle.plain_dag.proofs.Order.{above-reflexive}
 use Rattle.plain_site.specs.Site.{Site, opening}
-use Rattle.plain_rows.specs.Rows.{unpromised, row_of, with_row, is_free, fits_row}
+use Rattle.plain_rows.specs.Rows.{row_of, with_row, fits_row}
 use Rattle.plain_rows.specs.Laws.{RowsRaiseCounts, RowsLeavePromises, JoinedRowsFit, RowsOfOthersFit, RowsFitAtFirst}
 
 -- ===== Counts
@@ -55,7 +56,7 @@ pub record RowFits (site : Site) (n count : ℕ) : Type 0 where
   pub states : 1 ≤ count
   pub bits : count_of_site site.dag n + count < 4294967296
   pub sessions : site.sessions ≡ []
-  pub floors : IsTrue (list_all (is_free site.dag) site.floors)
+  pub floors : IsTrue (are_unpromised_above site.dag site.floors (last_arrived site.dag))
 
 none-of : {A : Type 0} (xs : List A) → IsTrue (length xs == 0) → xs ≡ []
 none-of [] t = refl
@@ -75,7 +76,7 @@ module _ (site : Site) (n count : ℕ) where
   alone = length site.sessions == 0
 
   abbrev free : Bool
-  free = list_all (is_free site.dag) site.floors
+  free = are_unpromised_above site.dag site.floors (last_arrived site.dag)
 
   pub fits-parts : IsTrue (fits_row site n count) → RowFits site n count
   fits-parts t =
@@ -106,17 +107,17 @@ module _ (site : Site) (n count : ℕ) where
 -- ===== Floors behind a row
 
 -- floors at the state that arrived last are free
-pub all-free : (rs : List Record) (fs : List Floor) → IsTrue (list_all (is_free rs) (map (λ f. unpromised (last_arrived rs)) fs))
+pub all-free : (rs : List Record) (fs : List Floor) → IsTrue (are_unpromised_above rs (map (λ f. unpromised (last_arrived rs)) fs) (last_arrived rs))
 all-free rs [] = refl
 all-free rs (f ∷ fs) =
-    and_from (is_free rs (unpromised (last_arrived rs))) (list_all (is_free rs) (map (λ f. unpromised (last_arrived rs)) fs))
+    and_from (is_unpromised_above rs (last_arrived rs) (unpromised (last_arrived rs))) (are_unpromised_above rs (map (λ f. unpromised (last_arrived rs)) fs) (last_arrived rs))
     (above-reflexive rs (last_arrived rs)) (all-free rs fs)
 
-free-numbers : (rs : List Record) (x : StateId) (fs : List Floor) → IsTrue (list_all (is_free rs) fs) →
+free-numbers : (rs : List Record) (x : StateId) (fs : List Floor) → IsTrue (are_unpromised_above rs fs (last_arrived rs)) →
     map (λ (f : Floor). f.number) (map (λ (f : Floor). unpromised x) fs) ≡ map (λ (f : Floor). f.number) fs
 free-numbers rs x [] h = refl
 free-numbers rs x (f ∷ fs) h =
-    let parts = and_parts (is_free rs f) (list_all (is_free rs) fs) h in
+    let parts = and_parts (is_unpromised_above rs (last_arrived rs) f) (are_unpromised_above rs fs (last_arrived rs)) h in
     let number = eqb-true f.number 0 (and_parts (f.number == 0) (is_above rs f.state (last_arrived rs)) parts.0).0 in
     ap₂ (λ (k : ℕ) (ks : List ℕ). k ∷ ks) (sym number) (free-numbers rs x fs parts.1)
 
@@ -196,7 +197,7 @@ pub rows-of-others-fit : RowsOfOthersFit with_row fits_row
 rows-of-others-fit site n m a b other may =
     same_test (fits_row (with_row n a site) m b) (fits_row site m b) (others-before site n m a b other may) (others-behind site n m a b other may)
 
-first-free : (sites : ℕ) → IsTrue (list_all (is_free (root_record ∷ [])) (replicate sites opening_floor))
+first-free : (sites : ℕ) → IsTrue (list_all (is_unpromised_above (root_record ∷ []) root) (replicate sites opening_floor))
 first-free zero = refl
 first-free (suc sites) = first-free sites
 

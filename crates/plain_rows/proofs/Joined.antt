@@ -2,10 +2,10 @@
 use Rattle.std.proofs.Common.{◌≡◌, ℕ, zero, suc, ◌+◌, List, [], ◌∷◌, map, refl, sym, ap, ◌∙◌, arith}
 use Rattle.tardis_base.specs.declared.ids.StateId.{StateId}
 use Rattle.plain_dag.specs.Begin.{last_arrived}
-use Rattle.plain_dag.specs.Floors.{Floor}
+use Rattle.plain_dag.specs.Floors.{Floor, unpromised}
 use Rattle.plain_dag.specs.Rows.{next_below}
 use Rattle.plain_site.specs.Site.{Site}
-use Rattle.plain_rows.specs.Rows.{unpromised, row_of, with_row}
+use Rattle.plain_rows.specs.Rows.{row_of, with_row}
 use Rattle.plain_rows.specs.Laws.{RowsJoin}
 
 -- the site with one state more

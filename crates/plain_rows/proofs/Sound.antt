@@ -14,7 +14,7 @@ use Rattle.plain_dag.specs.Above.{is_above, is_proper_ancestor}
 use Rattle.plain_dag.specs.Dag.{IsNext}
 use Rattle.plain_dag.specs.Begin.{last_arrived}
 use Rattle.plain_dag.specs.Entries.{entry_of}
-use Rattle.plain_dag.specs.Floors.{Floor, Sessions, is_closed, is_above_ceilings}
+use Rattle.plain_dag.specs.Floors.{Floor, Sessions, is_closed, is_above_ceilings, unpromised, is_unpromised_above, are_unpromised_above}
 use Rattle.plain_dag.specs.Collection.{is_kept, is_absorbed, kept_states}
 use Rattle.plain_dag.specs.Paths.{fork_path}
 use Rattle.plain_dag.specs.Rows.{next_below}
@@ -28,7 +28,7 @@ use Rattle.plain_site.specs.Site.{Site, own_floor}
 use Rattle.plain_site.specs.Sound.{are_sound_floors, are_distinct, is_sound_session, IsSound}
 use Rattle.plain_site.proofs.SoundOpening.{limits-parts}
 use Rattle.plain_site.proofs.SoundBooks.{TxnAt}
-use Rattle.plain_rows.specs.Rows.{unpromised, row_of, with_row, is_free, fits_row}
+use Rattle.plain_rows.specs.Rows.{row_of, with_row, fits_row}
 use Rattle.plain_rows.specs.Laws.{RowsKeepSound, RowsKeepClosed}
 use Rattle.plain_rows.proofs.LastArrived.{last-known, next-is_next}
 use Rattle.plain_rows.proofs.Kept.{last-kept}
@@ -81,10 +81,10 @@ module _ (site : Site) (n : ℕ) (sound : IsSound site) (fits : RowFits site n 1
   known-last = last-known rs sound.dag
 
   -- a collected state is above each floor, and so above the state that arrived last
-  above-last : (y : StateId) → (fs : List Floor) → 1 ≤ length fs → IsTrue (is_closed rs fs y) → IsTrue (list_all (is_free rs) fs) → IsTrue (is_above rs y x)
+  above-last : (y : StateId) → (fs : List Floor) → 1 ≤ length fs → IsTrue (is_closed rs fs y) → IsTrue (are_unpromised_above rs fs (last_arrived rs)) → IsTrue (is_above rs y x)
   above-last y [] some closed free = absurd (omega arith)
   above-last y (f ∷ fs) some closed free =
-      let down = and_parts (f.number == 0) (is_above rs f.state x) (and_parts (is_free rs f) (list_all (is_free rs) fs) free).0 in
+      let down = and_parts (f.number == 0) (is_above rs f.state x) (and_parts (is_unpromised_above rs (last_arrived rs) f) (are_unpromised_above rs fs (last_arrived rs)) free).0 in
       let proper = and_parts (is_proper_ancestor rs y f.state) (is_closed rs fs y) closed in
       above-transitive rs sound.dag y f.state x (proper-parts rs y f.state proper.0).0 down.1
 

@@ -8,7 +8,7 @@ use Rattle.tardis_base.specs.Ids.{root}
 use Rattle.tardis_base.specs.Valid.{is_record}
 use Rattle.plain_dag.specs.States.{is_known, count_of_site}
 use Rattle.plain_dag.specs.Conflicts.{is_conflict_key}
-use Rattle.plain_dag.specs.Floors.{is_closed}
+use Rattle.plain_dag.specs.Floors.{is_closed, unpromised}
 use Rattle.plain_dag.specs.Growth.{growth_refusal}
 use Rattle.plain_dag.proofs.Ids.{not-both, among-cases}
 use Rattle.plain_site.specs.Site.{Site, opening}
@@ -20,7 +20,7 @@ use Rattle.plain_site.proofs.SoundBooks.{book-keeps}
 use Rattle.plain_site.proofs.SoundHistories.{count-fits}
 use Rattle.plain_site.proofs.SoundArrivals.{arrival-keeps}
 use Rattle.plain_site.proofs.SoundFloors.{floor-keeps}
-use Rattle.plain_rows.specs.Rows.{unpromised, with_row, fits_row}
+use Rattle.plain_rows.specs.Rows.{with_row, fits_row}
 use Rattle.plain_rows.specs.Laws.{RowsKeepSound, RowsKeepClosed, RowsLeavePromises, RowsTakeThePlace, RowsRaiseCounts, RowsChangeNoMore, RowsLeaveRest}
 use Rattle.plain_rows.specs.Laws.{RowsFitAtFirst}
 use Rattle.plain_rows.specs.WrongRows.{IsBroken, leaves_floors, collects_the_last, keeps_the_old_last, forgets_promises, forgets_sessions}

@@ -1,19 +1,13 @@
 -- Rows of states that arrive at a site in one step.
 use Rattle.std.specs.Prelude.{ℕ, Bool, ◌==◌, ◌+◌, ◌^◌, ◌&&◌, nat_lt, nat_le, List, [], length, map, replicate}
-use Rattle.std.specs.List.{list_all}
 use Rattle.tardis_base.specs.declared.ids.StateId.{StateId}
 use Rattle.tardis_base.specs.declared.records.Record.{Record}
 use Rattle.tardis_base.specs.Valid.{is_within}
 use Rattle.plain_dag.specs.States.{count_of_site}
-use Rattle.plain_dag.specs.Above.{is_above}
 use Rattle.plain_dag.specs.Begin.{last_arrived}
-use Rattle.plain_dag.specs.Floors.{Floor}
+use Rattle.plain_dag.specs.Floors.{unpromised, are_unpromised_above}
 use Rattle.plain_dag.specs.Rows.{lengthened, row_left}
 use Rattle.plain_site.specs.Site.{Site}
-
--- a floor at this state of which nothing was promised
-abbrev pub unpromised : StateId → Floor
-unpromised x = record { state = x; number = 0; stated = 0 }
 
 -- the records with so many states of the site in front, which write nothing: each is below the one before it, the first below
 -- the state that had arrived last
@@ -31,13 +25,9 @@ with_row n count site =
       floors = map (λ f. unpromised (last_arrived (row_of site.dag n count))) site.floors;
     }
 
--- nothing was promised of this floor, and it is at or above the state that arrived last
-abbrev pub is_free : List Record → Floor → Bool
-is_free rs f = f.number == 0 && is_above rs f.state (last_arrived rs)
-
 -- a row may arrive: at one of the sites, with a state in it, and numbers of 32 bits; no session is open, and no floor was
 -- promised yet, each is at or above the state that arrived last
 abbrev pub fits_row : Site → (n count : ℕ) → Bool
 fits_row site n count =
     is_within 1 site.limits.sites n && nat_le 1 count && nat_lt (count_of_site site.dag n + count) (2 ^ 32)
-    && length site.sessions == 0 && list_all (is_free site.dag) site.floors
+    && length site.sessions == 0 && are_unpromised_above site.dag site.floors (last_arrived site.dag)

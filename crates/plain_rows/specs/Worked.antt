@@ -3,11 +3,11 @@ use Rattle.std.specs.Prelude.{◌≡◌, ℕ, Bool, true, false, ◌-◌, ◌^�
 use Rattle.tardis_base.specs.declared.records.Record.{Record}
 use Rattle.plain_dag.specs.States.{root_record}
 use Rattle.plain_dag.specs.Collection.{kept_states}
-use Rattle.plain_dag.specs.Floors.{opening_session}
+use Rattle.plain_dag.specs.Floors.{opening_session, unpromised}
 use Rattle.tardis_base.specs.declared.ids.StateId.{StateId}
 use Rattle.plain_site.specs.Site.{Site, opening}
 use Rattle.plain_site.specs.RowWords.{◌·◌, program_limits}
-use Rattle.plain_rows.specs.Rows.{unpromised, with_row, fits_row}
+use Rattle.plain_rows.specs.Rows.{with_row, fits_row}
 
 -- site 2 of three, as it opens
 abbrev pub three_sites : Site

@@ -2,11 +2,12 @@
 use Rattle.std.specs.Prelude.{◌==◌, ◌+◌, ◌-◌, ◌^◌, false, ◌&&◌, nat_lt, nat_le, [], ◌∷◌, length, replicate}
 use Rattle.std.specs.List.{list_all}
 use Rattle.tardis_base.specs.Valid.{is_within}
+use Rattle.plain_dag.specs.Floors.{are_unpromised_above}
 use Rattle.plain_dag.specs.States.{count_of_site}
 use Rattle.plain_dag.specs.Above.{is_above}
 use Rattle.plain_dag.specs.Begin.{last_arrived}
 use Rattle.plain_dag.specs.Rows.{row_left}
-use Rattle.plain_rows.specs.Rows.{row_of, with_row, is_free}
+use Rattle.plain_rows.specs.Rows.{row_of, with_row}
 use Rattle.plain_rows.specs.Laws.{Rows, Fits}
 
 -- the law doesn't hold
@@ -44,7 +45,7 @@ forgets_promises site n count =
 abbrev pub forgets_sessions : Fits
 forgets_sessions site n count =
     is_within 1 site.limits.sites n && nat_le 1 count && nat_lt (count_of_site site.dag n + count) (2 ^ 32)
-    && list_all (is_free site.dag) site.floors
+    && are_unpromised_above site.dag site.floors (last_arrived site.dag)
 
 -- a row fits though a floor is beside the state that arrived last
 abbrev pub forgets_places : Fits
@@ -56,4 +57,4 @@ forgets_places site n count =
 abbrev pub forgets_bits : Fits
 forgets_bits site n count =
     is_within 1 site.limits.sites n && nat_le 1 count && length site.sessions == 0
-    && list_all (is_free site.dag) site.floors
+    && are_unpromised_above site.dag site.floors (last_arrived site.dag)
