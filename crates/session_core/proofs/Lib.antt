@@ -25,4 +25,5 @@ pub mod FloorMoves
 pub mod Tidying
 pub mod Exchanging
 pub mod Resting
+pub mod TakingRows
 mod JoiningInOne

@@ -4,7 +4,11 @@ use Rattle.tardis_base.specs.declared.faults.NoMemory.{NoMemory as OutOfMemory}
 use Rattle.tardis_base.specs.declared.records.Record.{Record}
 use Rattle.tardis_base.specs.declared.replies.Refusal.TheVariants.{OpenConflict}
 use Rattle.tardis_base.specs.declared.replies.Reply.{Reply}
+use Rattle.plain_dag.specs.Begin.{last_arrived}
+use Rattle.plain_dag.specs.Floors.{are_unpromised_above}
 use Rattle.plain_dag.specs.Conflicts.{open_conflict}
+use Rattle.state_dag.specs.declared.rows.RowFault.{RowFault}
+use Rattle.state_dag.specs.declared.rows.RowFault.TheVariants.{NoMemory as RowNoMemory}
 use Rattle.ceiling_book.specs.declared.consents.ConsentEnd.{ConsentEnd}
 use Rattle.ceiling_book.specs.declared.consents.ConsentEnd.TheVariants.{Applied}
 use Rattle.ceiling_book.specs.Book.{sessions_of}
@@ -14,6 +18,7 @@ use Rattle.plain_site.specs.Answers.{refuse_found}
 use Rattle.plain_site.specs.Exchange.{judgements}
 use Rattle.plain_site.specs.Sound.{IsSound}
 use Rattle.plain_site.specs.Rest.{Lasting, Collection, nameless, with_lasting, fits, collected_by}
+use Rattle.plain_rows.specs.Rows.{with_row, fits_row}
 use Rattle.session_core.specs.Core.{Core}
 use Rattle.session_core.specs.Stands.{CoreStands}
 use Rattle.session_core.specs.declared.stops.Stop.{Stop}
@@ -64,3 +69,25 @@ TakenAs (Err NoMemory) (Err fault) = ⊤
 abbrev pub is_applied : ConsentEnd → Bool
 is_applied Applied = true
 is_applied end = false
+
+-- ===== A row
+
+-- the row fits, and was taken; or it doesn't fit; or there was no memory; and where it wasn't taken all is as before
+abbrev pub RowTakenBy : Core → (n count : ℕ) → Site → Result Bool OutOfMemory → Type 0
+RowTakenBy new n count site (Ok true) = IsTrue (fits_row site n count) × SiteStands new (with_row n count site)
+RowTakenBy new n count site (Ok false) = IsFalse (fits_row site n count) × SiteStands new site
+RowTakenBy new n count site (Err fault) = SiteStands new site
+
+-- so it is for each site that it stood for
+abbrev pub TakesRow : Core → Core → (n count : ℕ) → Result Bool OutOfMemory → Type 0
+TakesRow old new n count result = (site : Site) → SiteStands old site → RowTakenBy new n count site result
+
+-- no session is open, and no floor was promised yet, each is at or above the state that arrived last
+abbrev pub MayGoOn : Core → Bool → Type 0
+MayGoOn core may = (site : Site) → SiteStands core site → may ≡ (length site.sessions == 0 && are_unpromised_above site.dag site.floors (last_arrived site.dag))
+
+-- what is told of a row that did not arrive: there was no memory, or else it doesn't fit
+abbrev pub UntakenAs : RowFault → Result Bool OutOfMemory → Type 0
+UntakenAs RowNoMemory (Ok answer) = ⊥
+UntakenAs RowNoMemory (Err fault) = ⊤
+UntakenAs fault result = result ≡ Ok false

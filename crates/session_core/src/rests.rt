@@ -12,11 +12,13 @@ ghost use Rattle.plain_site.specs.Rest.{News};
 ghost use Rattle.session_core.specs.Stands.{StandsForSite};
 ghost use Rattle.session_core.specs.Machine.{opened_with};
 ghost use Rattle.session_core.specs.Rests.{is_quiet, TakesBack, Collects, KeepsSound, IsWelcomeTo, HasFitWrites, is_applied, TakenAs};
+ghost use Rattle.session_core.specs.Rests.{TakesRow, MayGoOn, UntakenAs};
 
 use crate::stops::Stop;
 use crate::{Parts, SiteCore};
 use ceiling_book::{CeilingBook, ConsentEnd};
 use site_exchange::{Judged, judge_nameless};
+use state_dag::RowFault;
 use tardis_base::{Consent, NoMemory, Record, Reply};
 
 impl Parts {
@@ -64,6 +66,31 @@ impl Parts {
         let end = self.book.take_consent_back(self.store.dag(), promise);
         is_applied(&end)
     }
+
+    /// Takes so many further states of the site in a row, which write nothing, where that fits.
+    fn take_row(&mut self, site: u16, count: u32) -> Result<bool, NoMemory>
+        ensures { TakesRow self.old self.new site count result }
+    {
+        if !self.may_go_on() {
+            return Ok(false);
+        }
+        match self.store.advance(site, count) {
+            Ok(slot) => {
+                let newest = self.store.dag().id_of(slot);
+                self.book.set_floors(newest, slot);
+                Ok(true)
+            },
+            Err(fault) => untaken(fault),
+        }
+    }
+
+    /// Whether no session is open and no floor was promised yet, each at or above the state that arrived last.
+    fn may_go_on(&self) -> bool
+        ensures { MayGoOn self.now result }
+    {
+        let dag = self.store.dag();
+        self.book.sessions() == 0 && self.book.are_unpromised_above(dag, dag.last())
+    }
 }
 
 /// Whether nothing speaks against the record.
@@ -94,6 +121,16 @@ fn taken(outcome: Result<Reply, Stop>) -> Result<bool, NoMemory>
         Ok(_) => Ok(true),
         Err(Stop::Refused(_)) => Ok(false),
         Err(Stop::NoMemory) => Err(NoMemory),
+    }
+}
+
+/// What is told of a row that did not arrive.
+fn untaken(fault: RowFault) -> Result<bool, NoMemory>
+    ensures { UntakenAs fault result }
+{
+    match fault {
+        RowFault::NoMemory => Err(NoMemory),
+        _ => Ok(false),
     }
 }
 
@@ -140,6 +177,21 @@ impl SiteCore {
         ensures opening { opened_with self.new ≡ opened_with self.old }
     {
         self.parts.take_promise(promise)
+    }
+
+    /// Takes back a row: so many further states of one site, which write nothing, each below the one before it and the first
+    /// below the state that arrived last. Each but the last of them is collected, and the one that had arrived last with them;
+    /// every floor is at the last one. `false` where it doesn't fit: where there is no such site, there is no state in it, its
+    /// numbers would not fit 32 bits, a session is open, a floor was promised, or one isn't at or above the state that arrived
+    /// last. Then, and with no memory, all is as before.
+    ///
+    /// What a row means is stated in `docs/MODEL.md`, 'Rows'. The cost doesn't grow with the number of states: it is that of
+    /// `RecordStore::advance`, and of an ancestry for each site.
+    pub fn take_row(&mut self, site: u16, count: u32) -> Result<bool, NoMemory>
+        ensures taken { TakesRow self.old self.new site count result }
+        ensures opening { opened_with self.new ≡ opened_with self.old }
+    {
+        self.parts.take_row(site, count)
     }
 
     /// Takes back that so many states were collected: collects up to `count` closed states, the collectable one that arrived last

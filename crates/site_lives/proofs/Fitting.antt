@@ -131,11 +131,11 @@ module _ (one : IntroductionsHaveOneSpelling) (own sites : ℕ) (lives : Lives) 
 
 -- ===== The own one comes first
 
-abbrev IsOrdered : ℕ → Lives → Type 0
+abbrev pub IsOrdered : ℕ → Lives → Type 0
 IsOrdered own lives = IsTrue (is_none (life_of lives own)) → IsTrue (list_all is_none lives)
 
 -- it began: so it is known, or it has no place and nothing changed
-begun-ordered : (own : ℕ) (lives : Lives) (life : Life) → IsOrdered own lives → IsOrdered own (with_life own life lives)
+pub begun-ordered : (own : ℕ) (lives : Lives) (life : Life) → IsOrdered own lives → IsOrdered own (with_life own life lives)
 begun-ordered own lives life ordered none =
     elim (cases_Bool (nat_lt (own - 1) (length lives))) [
       | inl t ↦
@@ -222,7 +222,7 @@ life-valid site lives new sound (inl begins) =
     (subst (λ n. IsTrue (is_u16 n)) (sym begins.number) (small-number site.limits site.own sound.limits sound.own)) begins.life
 life-valid site lives new sound (inr meets) = and_from (is_u16 new.number) (is_life new.life) meets.fits meets.life
 
-abbrev Fits : Acquainted → LastingThing → Type 0
+abbrev pub Fits : Acquainted → LastingThing → Type 0
 Fits a t = IsTrue (is_thing t) × IsTrue (fits_thing (all_at_rest a) t)
 
 module _ (read : RequestsHaveOneSpelling) (one : IntroductionsHaveOneSpelling) where
@@ -237,7 +237,7 @@ module _ (read : RequestsHaveOneSpelling) (one : IntroductionsHaveOneSpelling) w
           let valid = ((read.some bytes q).0 is).0 in
           (what-lasts-is-spelled site n q l small valid sound d, what-lasts-fits site n q l small valid sound d)
 
-  thing-fits : (a : Acquainted) (e : Event) (t : LastingThing) → IsTrue (is_u16 e.0) → IsSound a.site → OwnCameFirst a → thing_of_event a e ≡ Some t → Fits a t
+  pub thing-fits : (a : Acquainted) (e : Event) (t : LastingThing) → IsTrue (is_u16 e.0) → IsSound a.site → OwnCameFirst a → thing_of_event a e ≡ Some t → Fits a t
   thing-fits a e t small sound ordered =
       about-or-not a e (λ next o. o ≡ Some t → Fits a t) (λ is. news (about_lives a e.1).1 refl) (λ is. own (lasting_of_event a.site e) refl)
     where

@@ -7,12 +7,14 @@ use Rattle.plain_site.specs.Site.{Site}
 use Rattle.plain_site.specs.Sound.{IsSound}
 use Rattle.plain_site.specs.Rest.{at_rest, fits}
 use Rattle.plain_site.specs.RestSpellings.{is_lasting}
+use Rattle.plain_rows.specs.Rows.{fits_row}
+use Rattle.plain_rows.proofs.Sound.{rows-keep-sound}
 use Rattle.rest_laws.specs.LimitLaws.{under, AreWithin}
 use Rattle.rest_laws.proofs.Fitting.{rests-still, what-fits-keeps-sound}
 use Rattle.rest_laws.proofs.Larger.{limits-stay, lasting-larger, larger-limits-take-back}
 use Rattle.site_lives.specs.Lives.{fits_life}
 use Rattle.site_lives.specs.Acquainted.{Acquainted}
-use Rattle.site_lives.specs.Things.{LastingThing, OfSite, OfLives, all_at_rest, with_thing, fits_thing, replay_things, all_things_fit, is_thing, are_things}
+use Rattle.site_lives.specs.Things.{LastingThing, OfSite, OfLives, OfRow, all_at_rest, with_thing, fits_thing, replay_things, all_things_fit, is_thing, are_things}
 use Rattle.site_lives.specs.RestLaws.{all_under, LargerLimitsTakeBytes, BytesKeepSound}
 
 -- ===== One thing
@@ -27,24 +29,30 @@ fits-larger a larger (OfSite l) sound within valid fit =
     (and_parts (fits (under larger (at_rest a.site)) l) true taken.0).0
 fits-larger a larger (OfLives new) sound within valid fit =
     subst (λ (n : ℕ). IsTrue (fits_life a.site.own n a.lives new)) within.sites fit
+fits-larger a larger (OfRow n count) sound within valid fit =
+    subst (λ (sites : ℕ). IsTrue (fits_row (under (record larger { sites = sites }) (at_rest a.site)) n count)) within.sites fit
 
 thing-larger : (a : Acquainted) (larger : Limits) (t : LastingThing) → with_thing t (all_under larger a) ≡ all_under larger (with_thing t a)
 thing-larger a larger (OfSite l) = ap (λ (s : Site). record { site = s; lives = a.lives }) (lasting-larger a.site larger l)
 thing-larger a larger (OfLives new) = refl
+thing-larger a larger (OfRow n count) = refl
 
 thing-keeps-sound : (a : Acquainted) (t : LastingThing) → IsSound (at_rest a.site) → IsTrue (is_thing t) → IsTrue (fits_thing (all_at_rest a) t) →
     IsSound (with_thing t (all_at_rest a)).site
 thing-keeps-sound a (OfSite l) sound valid fit =
     what-fits-keeps-sound a.site (l ∷ []) sound (one (is_lasting l) valid) (one (fits (at_rest a.site) l) fit)
 thing-keeps-sound a (OfLives new) sound valid fit = sound
+thing-keeps-sound a (OfRow n count) sound valid fit = rows-keep-sound (at_rest a.site) n count sound fit
 
 thing-keeps-limits : (a : Acquainted) (t : LastingThing) → a.site.limits ≡ (with_thing t a).site.limits
 thing-keeps-limits a (OfSite l) = limits-stay a.site l
 thing-keeps-limits a (OfLives new) = refl
+thing-keeps-limits a (OfRow n count) = refl
 
-all-rest-still : (a : Acquainted) (t : LastingThing) → with_thing t (all_at_rest a) ≡ all_at_rest (with_thing t (all_at_rest a))
+pub all-rest-still : (a : Acquainted) (t : LastingThing) → with_thing t (all_at_rest a) ≡ all_at_rest (with_thing t (all_at_rest a))
 all-rest-still a (OfSite l) = ap (λ (s : Site). record { site = s; lives = a.lives }) (rests-still a.site l)
 all-rest-still a (OfLives new) = refl
+all-rest-still a (OfRow n count) = refl
 
 -- ===== Several things
 

@@ -2,6 +2,7 @@
 use Rattle.std.proofs.Common.{◌≡◌, ℕ, false, List, [], ◌∷◌, ◌++◌, length, Option, Some, None, IsTrue, IsFalse, inl, inr, refl, sym, ap, subst, ◌∙◌, bytes_eq, arith}
 use Rattle.std.specs.Prelude.{option_to_list, option_map}
 use Rattle.std.proofs.lemmas.Bool.{both_ways, cases_Bool, cond-true, cond-false, false_from_ne_true, or_parts}
+use Rattle.std.proofs.lemmas.List.Folds.{list_all-append}
 use Rattle.std.proofs.lemmas.Slice.Eq.{bytes_eq-Decides}
 use Rattle.tardis_base.specs.Plain.{Event, no_memory}
 use Rattle.plain_site.specs.Site.{Site}
@@ -15,27 +16,29 @@ use Rattle.site_lives.specs.declared.lives.NewLife.{NewLife}
 use Rattle.site_lives.specs.Lives.{is_of_lives}
 use Rattle.site_lives.specs.Acquainted.{Acquainted, about_lives, with_news, acquainted_machine}
 use Rattle.site_lives.specs.Laws.{others, replies_to_others}
-use Rattle.site_lives.specs.Things.{LastingThing, OfSite, OfLives, all_at_rest, thing_of_event, with_thing, fits_thing, replay_things, all_things_fit}
-use Rattle.site_lives.specs.RestLaws.{things_of_answers, of_site, SiteIsReplayed, SiteFits, SiteHasItsThings, AllIsReplayed, LedTo, FrontsAreOfFronts}
+use Rattle.site_lives.specs.Things.{LastingThing, OfSite, OfLives, OfRow, all_at_rest, thing_of_event, with_thing, fits_thing, replay_things, all_things_fit}
+use Rattle.site_lives.specs.RestLaws.{things_of_answers, of_site, is_no_row, have_no_row, NoRowLasts, SiteIsReplayed, SiteFits, SiteHasItsThings, AllIsReplayed, LedTo, FrontsAreOfFronts}
 use Rattle.site_lives.proofs.Trails.{step-lives, step-site, reply-site, out-events, in-events, out-replies, in-replies}
 
 -- ===== The site's own things
 
 pub site-is-replayed : SiteIsReplayed
-site-is-replayed a [] = refl
-site-is-replayed a (OfSite l ∷ ts) = site-is-replayed (with_thing (OfSite l) a) ts
-site-is-replayed a (OfLives new ∷ ts) = site-is-replayed (with_thing (OfLives new) a) ts
+site-is-replayed a [] own = refl
+site-is-replayed a (OfSite l ∷ ts) own = site-is-replayed (with_thing (OfSite l) a) ts own
+site-is-replayed a (OfLives new ∷ ts) own = site-is-replayed (with_thing (OfLives new) a) ts own
+site-is-replayed a (OfRow n count ∷ ts) own = absurd (let bad : ⊥ = cc in bad)
 
 pub site-fits : SiteFits
-site-fits a [] fit = refl
-site-fits a (OfSite l ∷ ts) fit =
+site-fits a [] own fit = refl
+site-fits a (OfSite l ∷ ts) own fit =
     let next = with_thing (OfSite l) a in
     let parts = and_parts (fits a.site l) (all_things_fit next ts) fit in
-    and_from (fits a.site l) (all_fit next.site (of_site ts)) parts.0 (site-fits next ts parts.1)
-site-fits a (OfLives new ∷ ts) fit =
+    and_from (fits a.site l) (all_fit next.site (of_site ts)) parts.0 (site-fits next ts own parts.1)
+site-fits a (OfLives new ∷ ts) own fit =
     let next = with_thing (OfLives new) a in
     let parts = and_parts (fits_thing a (OfLives new)) (all_things_fit next ts) fit in
-    site-fits next ts parts.1
+    site-fits next ts own parts.1
+site-fits a (OfRow n count ∷ ts) own fit = absurd (let bad : ⊥ = cc in bad)
 
 -- ===== One event
 
@@ -105,6 +108,35 @@ done-things a e es y ys is =
     told-otherwise a e (sym is ∙ (bytes_eq-Decides y no_memory).0 t)) in
     cond-false (bytes_eq y no_memory) (things_of_answers a es ys)
     (option_to_list (thing_of_event a e) ++ things_of_answers (acquainted_machine.step a e) es ys) other
+
+-- of an event no row lasts
+thing-is-no_row : (a : Acquainted) (e : Event) → IsTrue (have_no_row (option_to_list (thing_of_event a e)))
+thing-is-no_row a e =
+    about-or-not a e (λ next o. IsTrue (have_no_row (option_to_list o))) (λ t. news (about_lives a e.1).1) (λ f. own (lasting_of_event a.site e))
+  where
+    news : (new : Option NewLife) → IsTrue (have_no_row (option_to_list (option_map OfLives new)))
+    news None = refl
+    news (Some new) = refl
+
+    own : (o : Option Lasting) → IsTrue (have_no_row (option_to_list (option_map OfSite o)))
+    own None = refl
+    own (Some l) = refl
+
+pub no-row-lasts : NoRowLasts
+no-row-lasts a [] [] = refl
+no-row-lasts a [] (y ∷ ys) = refl
+no-row-lasts a (e ∷ es) [] = refl
+no-row-lasts a (e ∷ es) (y ∷ ys) =
+    let undone = things_of_answers a es ys in
+    let next = acquainted_machine.step a e in
+    let later = things_of_answers next es ys in
+    let first = option_to_list (thing_of_event a e) in
+    elim (cases_Bool (bytes_eq y no_memory)) [
+      | inl t ↦ subst (λ ts. IsTrue (have_no_row ts)) (sym (cond-true (bytes_eq y no_memory) undone (first ++ later) t)) (no-row-lasts a es ys)
+      | inr f ↦
+          subst (λ ts. IsTrue (have_no_row ts)) (sym (cond-false (bytes_eq y no_memory) undone (first ++ later) f))
+          (list_all-append is_no_row first later ∙ and_from (have_no_row first) (have_no_row later) (thing-is-no_row a e) (no-row-lasts next es ys))
+    ]
 
 pub replay-appended : (first more : List LastingThing) (a : Acquainted) → replay_things (first ++ more) a ≡ replay_things more (replay_things first a)
 replay-appended [] more a = refl
@@ -210,6 +242,7 @@ of-site-appended : (first more : List LastingThing) → of_site (first ++ more) 
 of-site-appended [] more = refl
 of-site-appended (OfSite l ∷ first) more = ap (λ ls. l ∷ ls) (of-site-appended first more)
 of-site-appended (OfLives new ∷ first) more = of-site-appended first more
+of-site-appended (OfRow n count ∷ first) more = of-site-appended first more
 
 of-news : (new : Option NewLife) → of_site (option_to_list (option_map OfLives new)) ≡ []
 of-news None = refl

@@ -6,3 +6,4 @@ pub mod Lasting
 pub mod Larger
 pub mod Fitting
 pub mod Spelled
+pub mod Onward

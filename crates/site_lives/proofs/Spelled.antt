@@ -14,7 +14,8 @@ use Rattle.wire_item.proofs.Things.{reads-record, reads-consent}
 use Rattle.wire_lives.proofs.Laws.{reads-life}
 use Rattle.plain_site.specs.Rest.{News, Collection}
 use Rattle.plain_site.specs.RestSpellings.{is_count}
-use Rattle.site_lives.specs.Things.{LastingThing, OfSite, OfLives, life_spelling, thing_spelling, is_new_life, is_thing, life_front, thing_rows, thing_front}
+use Rattle.site_lives.specs.Things.{LastingThing, OfSite, OfLives, OfRow, life_spelling, row_spelling, thing_spelling, is_new_life, is_row, is_thing, life_front}
+use Rattle.site_lives.specs.Things.{row_front, thing_rows, thing_front}
 use Rattle.site_lives.specs.Things.{are_things, all_spellings, replay_things}
 use Rattle.site_lives.specs.RestLaws.{OneWayBack}
 
@@ -27,6 +28,9 @@ reads-new-life =
     reads-made (λ p. record { number = p.0; life = p.1 }) (λ new. (new.number, new.life)) is_new_life life_spelling
     (λ new h. refl) (λ p. refl) (λ p. refl) (reads-both reads-u16 reads-life)
 
+reads-row : Reads is_row row_spelling row_front
+reads-row = reads-both reads-u16 reads-count
+
 pub reads-thing : Reads is_thing thing_spelling thing_front
 reads-thing = record {
   back = back;
@@ -36,7 +40,10 @@ reads-thing = record {
       row-made is_thing thing_spelling 2 (λ c. OfSite (News (Promise c))) reads-consent (λ c h. h) (λ c. refl),
       (
         row-made is_thing thing_spelling 3 (λ n. OfSite (Collection n)) reads-count (λ n h. h) (λ n. refl),
-        (row-made is_thing thing_spelling 4 OfLives reads-new-life (λ new h. h) (λ new. refl), tt),
+        (
+          row-made is_thing thing_spelling 4 OfLives reads-new-life (λ new h. h) (λ new. refl),
+          (row-made is_thing thing_spelling 5 (λ row. OfRow row.0 row.1) reads-row (λ row h. h) (λ row. refl), tt),
+        ),
       ),
     ),
   );
@@ -48,12 +55,14 @@ reads-thing = record {
     back (OfSite (News (Promise c))) rest h = made-back reads-consent (λ c. OfSite (News (Promise c))) c rest h
     back (OfSite (Collection n)) rest h = made-back reads-count (λ n. OfSite (Collection n)) n rest h
     back (OfLives new) rest h = made-back reads-new-life OfLives new rest h
+    back (OfRow n count) rest h = made-back reads-row (λ row. OfRow row.0 row.1) (n, count) rest h
 
     bytes : (t : LastingThing) → IsTrue (is_thing t) → IsTrue (are_bytes (thing_spelling t))
     bytes (OfSite (News (State r))) h = reads-record.bytes r h
     bytes (OfSite (News (Promise c))) h = reads-consent.bytes c h
     bytes (OfSite (Collection n)) h = reads-count.bytes n h
     bytes (OfLives new) h = reads-new-life.bytes new h
+    bytes (OfRow n count) h = reads-row.bytes (n, count) h
 
 -- ===== Several
 
@@ -63,6 +72,7 @@ starts (OfSite (News (State r))) more e = absurd (cc)
 starts (OfSite (News (Promise c))) more e = absurd (cc)
 starts (OfSite (Collection n)) more e = absurd (cc)
 starts (OfLives new) more e = absurd (cc)
+starts (OfRow n count) more e = absurd (cc)
 
 front-of-all : (t : LastingThing) (ts : List LastingThing) (bytes : List ℕ) → IsTrue (are_things (t ∷ ts)) → bytes ≡ all_spellings (t ∷ ts) →
     thing_front bytes ≡ Some (t, all_spellings ts)

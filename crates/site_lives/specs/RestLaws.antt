@@ -1,19 +1,21 @@
 -- What lasts of a site and of the lives that it knows, over whole trails; and that what lasts of the site is what lasts of it where it
 -- knows none, so that what is true of that is true here.
-use Rattle.std.specs.Prelude.{◌≡◌, ℕ, bytes_eq, List, [], ◌∷◌, ◌++◌, option_to_list, is_none, IsTrue, if◌then◌else◌}
+use Rattle.std.specs.Prelude.{◌≡◌, ℕ, Bool, true, false, bytes_eq, List, [], ◌∷◌, ◌++◌, Option, Some, option_map, option_to_list, is_none, IsTrue, if◌then◌else◌}
 use Rattle.std.specs.List.{list_all}
 use Rattle.tardis_base.specs.declared.records.Limits.{Limits}
 use Rattle.tardis_base.specs.Plain.{Event, Answers, no_memory}
 use Rattle.tardis_base.specs.Valid.{is_u16}
+use Rattle.plain_site.specs.Site.{Site}
 use Rattle.plain_site.specs.Sound.{IsSound}
-use Rattle.plain_site.specs.Rest.{Lasting, replay, all_fit}
+use Rattle.plain_site.specs.Rest.{Lasting, at_rest, replay, fits, all_fit}
+use Rattle.plain_site.specs.RestSpellings.{is_lasting}
 use Rattle.rest_laws.specs.Trails.{lasting_of_answers}
 use Rattle.rest_laws.specs.LimitLaws.{under, AreWithin}
 use Rattle.site_lives.specs.Lives.{life_of}
 use Rattle.site_lives.specs.Acquainted.{Acquainted, acquainted_machine}
 use Rattle.site_lives.specs.Laws.{others, replies_to_others}
-use Rattle.site_lives.specs.Things.{LastingThing, OfSite, OfLives, all_at_rest, thing_of_event, replay_things, all_things_fit, are_things}
-use Rattle.site_lives.specs.Bytes.{TakesBack}
+use Rattle.site_lives.specs.Things.{LastingThing, OfSite, OfLives, OfRow, all_at_rest, thing_of_event, replay_things, all_things_fit, are_things, all_spellings}
+use Rattle.site_lives.specs.Bytes.{lasting_bytes, TakesBack}
 
 -- what lasts of events with these replies; where memory was wanting, nothing does
 abbrev pub things_of_answers : Acquainted → List Event → List (List ℕ) → List LastingThing
@@ -30,13 +32,26 @@ abbrev pub of_site : List LastingThing → List Lasting
 of_site [] = []
 of_site (OfSite l ∷ ts) = l ∷ of_site ts
 of_site (OfLives new ∷ ts) = of_site ts
+of_site (OfRow n count ∷ ts) = of_site ts
+
+-- it is no row
+abbrev pub is_no_row : LastingThing → Bool
+is_no_row (OfRow n count) = false
+is_no_row t = true
+
+abbrev pub have_no_row : List LastingThing → Bool
+have_no_row ts = list_all is_no_row ts
+
+-- of requests no row lasts
+abbrev pub NoRowLasts : Type 0
+NoRowLasts = (a : Acquainted) (events : List Event) (replies : List (List ℕ)) → IsTrue (have_no_row (things_of_answers a events replies))
 
 -- the site becomes what its own things make of it, each of which fits
 abbrev pub SiteIsReplayed : Type 0
-SiteIsReplayed = (a : Acquainted) (ts : List LastingThing) → (replay_things ts a).site ≡ replay (of_site ts) a.site
+SiteIsReplayed = (a : Acquainted) (ts : List LastingThing) → IsTrue (have_no_row ts) → (replay_things ts a).site ≡ replay (of_site ts) a.site
 
 abbrev pub SiteFits : Type 0
-SiteFits = (a : Acquainted) (ts : List LastingThing) → IsTrue (all_things_fit a ts) → IsTrue (all_fit a.site (of_site ts))
+SiteFits = (a : Acquainted) (ts : List LastingThing) → IsTrue (have_no_row ts) → IsTrue (all_things_fit a ts) → IsTrue (all_fit a.site (of_site ts))
 
 -- and what lasts of its trail is what lasts of that of the site alone, without the requests about lives
 abbrev pub SiteHasItsThings : Type 0
@@ -85,6 +100,35 @@ AllFits =
 -- bytes are taken back in one way at most
 abbrev pub OneWayBack : Type 0
 OneWayBack = (a b c : Acquainted) (bytes : List ℕ) → TakesBack a bytes b → TakesBack a bytes c → b ≡ c
+
+-- ===== Bytes behind bytes
+
+-- what took bytes back is at rest
+abbrev pub BytesLeaveAtRest : Type 0
+BytesLeaveAtRest = (a behind : Acquainted) (bytes : List ℕ) → TakesBack a bytes behind → all_at_rest behind ≡ behind
+
+-- bytes that are taken back one after another are taken back as one
+abbrev pub BytesGoOn : Type 0
+BytesGoOn =
+    (a between behind : Acquainted) (bytes more : List ℕ) → TakesBack a bytes between → TakesBack between more behind → TakesBack a (bytes ++ more) behind
+
+-- where no other life is known before the own one, so it is behind what was taken back
+abbrev pub BytesKeepOrder : Type 0
+BytesKeepOrder = (a behind : Acquainted) (bytes : List ℕ) → OwnCameFirst a → TakesBack a bytes behind → OwnCameFirst behind
+
+-- what is all that was added to the site at rest, and fits it, is taken back by it and leads to the site behind it, at rest
+abbrev pub AdditionsGoOn : Type 0
+AdditionsGoOn =
+    (a : Acquainted) (next : Site) (added : Option Lasting) →
+    ((l : Lasting) → added ≡ Some l → IsTrue (is_lasting l) × IsTrue (fits (at_rest a.site) l)) →
+    replay (option_to_list added) (at_rest a.site) ≡ at_rest next →
+    TakesBack (all_at_rest a) (all_spellings (option_to_list (option_map OfSite added))) (all_at_rest (record { site = next; lives = a.lives }))
+
+-- so is what lasts of an event
+abbrev pub EventsGoOn : Type 0
+EventsGoOn =
+    (a : Acquainted) (e : Event) → IsTrue (is_u16 e.0) → IsSound a.site → OwnCameFirst a →
+    TakesBack (all_at_rest a) (lasting_bytes a e) (all_at_rest (acquainted_machine.step a e))
 
 -- ===== Larger limits
 

@@ -1,11 +1,17 @@
 -- Worked rows: what the first of two sites answers when it is to meet others.
-use Rattle.std.specs.Prelude.{◌≡◌, ℕ, true, false, List, [], ◌∷◌, map}
+use Rattle.std.specs.Prelude.{◌≡◌, ℕ, true, false, List, [], ◌∷◌, map, codes}
+use Rattle.tardis_base.specs.declared.ids.StateId.{StateId}
+use Rattle.tardis_base.specs.declared.records.Item.TheVariants.{State, Promise}
+use Rattle.tardis_base.specs.declared.records.Write.TheVariants.{Put}
+use Rattle.tardis_base.specs.Ids.{root}
 use Rattle.tardis_base.specs.Plain.{Event}
+use Rattle.plain_dag.specs.Collection.{kept_states}
 use Rattle.plain_site.specs.Site.{opening}
-use Rattle.plain_site.specs.RowWords.{program_limits}
+use Rattle.plain_site.specs.RowWords.{◌·◌, program_limits}
+use Rattle.plain_site.specs.Rest.{News}
 use Rattle.plain_site.specs.RowByteWords.{hex, ByteLine, ◌sends◌=>◌}
 use Rattle.site_lives.specs.Acquainted.{Acquainted, unacquainted, acquainted_machine}
-use Rattle.site_lives.specs.Things.{OfLives, replay_things, all_things_fit}
+use Rattle.site_lives.specs.Things.{LastingThing, OfSite, OfLives, OfRow, replay_things, all_things_fit, all_spellings}
 use Rattle.site_lives.specs.Bytes.{lasting_bytes}
 
 -- the replies to the requests of these lines, one after another
@@ -69,3 +75,35 @@ LivesOutlastTheSite =
     × (all_things_fit site (second ∷ []) ≡ false)
     × (all_things_fit site (own ∷ own ∷ []) ≡ false)
     × (all_things_fit site (own ∷ OfLives (record { number = 3; life = hex "bbbbbbbbbbbbbbbbbbbbbbbbbbbbbbbb" }) ∷ []) ≡ false)
+
+-- A row is 5, the site's number and how many states there are. A site that opens takes it back, and another one behind it: of the
+-- states of both the last is kept. None fits that has no state or is of a third of two sites, and none behind the promise of a floor.
+abbrev pub RowsAreTakenBack : Type 0
+RowsAreTakenBack =
+    let site = unacquainted (opening (program_limits 2) 1) in
+    let rows = OfRow 2 2 ∷ OfRow 1 1 ∷ [] in
+    let behind = (replay_things rows site).site in
+    let promise = OfSite (News (Promise (record { site = 1; number = 1; floor = root; count = 0 }))) in
+    (all_spellings rows ≡ hex "05 0002 00000002 05 0001 00000001")
+    × (all_things_fit site rows ≡ true)
+    × (kept_states behind.dag behind.collected ≡ (1 · 1) ∷ [])
+    × (all_things_fit site (OfRow 2 0 ∷ []) ≡ false)
+    × (all_things_fit site (OfRow 3 1 ∷ []) ≡ false)
+    × (all_things_fit site (promise ∷ []) ≡ true)
+    × (all_things_fit site (promise ∷ OfRow 2 2 ∷ []) ≡ false)
+
+-- what lasts of a commit of the only site below this state: its fourth state, which writes x
+abbrev pub fourth_below : StateId → LastingThing
+fourth_below parent = OfSite (News (State (record { id = 1 · 4; parents = parent ∷ []; writes = (codes "x", Put (codes "1")) ∷ [] })))
+
+-- Behind a row of three states stands the record of a fourth one: it is below the last of them, which is kept, and below none that is
+-- collected.
+abbrev pub RecordsStandBehindRows : Type 0
+RecordsStandBehindRows =
+    let site = unacquainted (opening (program_limits 1) 1) in
+    let things = OfRow 1 3 ∷ fourth_below (1 · 3) ∷ [] in
+    let behind = (replay_things things site).site in
+    (all_spellings things ≡ hex "05 0001 00000003 01 0001 00000004 01 0001 00000003 01 01 78 01 0001 31")
+    × (all_things_fit site things ≡ true)
+    × (kept_states behind.dag behind.collected ≡ (1 · 3) ∷ (1 · 4) ∷ [])
+    × (all_things_fit site (OfRow 1 3 ∷ fourth_below (1 · 2) ∷ []) ≡ false)

@@ -1,13 +1,14 @@
 //! Laws of what lasts of a site and of the lives that it knows. Each call does nothing.
 
-ghost use Rattle.site_lives.specs.RestLaws.{SiteIsReplayed, SiteFits, SiteHasItsThings, AllIsReplayed, FrontsAreOfFronts, AllFits, OneWayBack, LargerLimitsTakeBytes, BytesKeepSound};
+ghost use Rattle.site_lives.specs.RestLaws.{NoRowLasts, SiteIsReplayed, SiteFits, SiteHasItsThings, AllIsReplayed, FrontsAreOfFronts, AllFits, OneWayBack, LargerLimitsTakeBytes, BytesKeepSound, BytesLeaveAtRest, BytesGoOn, BytesKeepOrder, AdditionsGoOn, EventsGoOn};
 
 use wire_lives::introductions_have_one_spelling;
 use wire_talk::talk_has_one_spelling;
 
 /// What lasts of the site is what lasts of it where it knows no lives, and leads it to where that leads. So all that is true of
-/// that (`rest_laws`) is true here.
+/// that (`rest_laws`) is true here. Rows, by which a history is told shorter, last of no request.
 pub fn what_lasts_of_the_site_is_its_own()
+    ensures no_rows { NoRowLasts }
     ensures replayed { SiteIsReplayed }
     ensures fits { SiteFits }
     ensures things { SiteHasItsThings }
@@ -27,6 +28,20 @@ pub fn lives_last_beside_the_site()
     ensures fronts { FrontsAreOfFronts }
     ensures fits { AllFits }
     ensures one { OneWayBack }
+{
+    talk_has_one_spelling();
+    introductions_have_one_spelling();
+}
+
+/// What took bytes back is at rest, and what stands in more bytes may be taken back behind it, as if all had been one. So what lasts of
+/// each event goes on from what lasted before it, to the site at rest behind the event; and so does whatever else is added to a site,
+/// where it fits and is all that was added.
+pub fn what_lasts_goes_on()
+    ensures rests { BytesLeaveAtRest }
+    ensures onward { BytesGoOn }
+    ensures order { BytesKeepOrder }
+    ensures additions { AdditionsGoOn }
+    ensures events { EventsGoOn }
 {
     talk_has_one_spelling();
     introductions_have_one_spelling();

@@ -9,9 +9,11 @@ mod lives;
 mod rows;
 
 pub use lasting_laws::{
-    larger_limits_take_the_same_bytes, lives_last_beside_the_site,
+    larger_limits_take_the_same_bytes, lives_last_beside_the_site, what_lasts_goes_on,
     what_lasts_of_the_site_is_its_own,
 };
 pub use laws::{meetings_leave_the_site, one_life_is_met_of_each_site};
 pub use lives::{Lives, NewLife, is_of_lives};
-pub use rows::{lives_outlast_the_site, meetings_are_answered};
+pub use rows::{
+    lives_outlast_the_site, meetings_are_answered, records_stand_behind_rows, rows_are_taken_back,
+};

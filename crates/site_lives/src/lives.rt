@@ -1,6 +1,6 @@
 //! The lives that a site knows, and what it answers to requests about them.
 
-ghost use Rattle.std.specs.Prelude.{◌≡◌, ◌-◌, is_none, IsTrue};
+ghost use Rattle.std.specs.Prelude.{◌≡◌, ◌↔◌, ◌-◌, is_none, IsTrue};
 ghost use Rattle.std.specs.List.{list_all};
 ghost use Rattle.wire_lives.specs.declared.introductions.Introduction.{Introduction};
 ghost use Rattle.site_lives.specs.Lives.{no_lives, life_of, with_life, with_new, new_life, is_another, is_of_lives, lives_answer, verdict, meet, begin_life, introduction, fits_life};
@@ -186,6 +186,13 @@ impl Lives {
             } else {
                 self.of(own).is_some()
             }
+    }
+
+    /// Whether just the same lives are known.
+    pub fn are_same(&self, others: &Lives) -> bool
+        ensures { IsTrue result ↔ (self.now ≡ others.now) }
+    {
+        self.known == others.known
     }
 
     /// Whether none is known.

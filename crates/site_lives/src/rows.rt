@@ -1,6 +1,6 @@
 //! Worked rows. Each call does nothing.
 
-ghost use Rattle.site_lives.specs.Rows.{MeetingsAreAnswered, LivesOutlastTheSite};
+ghost use Rattle.site_lives.specs.Rows.{MeetingsAreAnswered, LivesOutlastTheSite, RowsAreTakenBack, RecordsStandBehindRows};
 
 /// What the first of two sites answers when it is to meet others.
 pub fn meetings_are_answered()
@@ -10,4 +10,14 @@ pub fn meetings_are_answered()
 /// What lasts of that, and what it knows when it started again.
 pub fn lives_outlast_the_site()
     ensures { LivesOutlastTheSite }
+{}
+
+/// A row in bytes, what a site makes of it, and where none fits.
+pub fn rows_are_taken_back()
+    ensures { RowsAreTakenBack }
+{}
+
+/// The record of a state below the last one of a row.
+pub fn records_stand_behind_rows()
+    ensures { RecordsStandBehindRows }
 {}
