@@ -4,10 +4,10 @@ use Rattle.std.proofs.Common.{length-append, append-nil}
 use Rattle.std.proofs.lemmas.Bool.{cases_lt}
 use Rattle.std.proofs.lemmas.List.{take-append-le, drop-append-le, take_all, length-drop}
 use Rattle.disk_forms.specs.declared.histories.Kept.{Kept}
-use Rattle.disk_forms.specs.declared.histories.Kept.TheVariants.{Looked, Wrote, Tore, WroteBytewise, ToreBytewise, CutTo, MayCut, Synced}
-use Rattle.disk_store.specs.Disks.{with_bytes, Torn, Bytewise, Shortened, Follows, NoMore, Only, Elapses}
+use Rattle.disk_forms.specs.declared.histories.Kept.TheVariants.{Looked, Wrote, Tore, WroteBytewise, ToreBytewise, CutTo, MayCut, Synced, Replaced, MayReplace}
+use Rattle.disk_store.specs.Disks.{with_bytes, Torn, Bytewise, Shortened, Follows, NoMore, Only, Elapses, Replaced as LeavesOr}
 use Rattle.disk_forms.specs.Memory.{Call, Known, Recorded, fresh, after, known_after, known_of, with_call, IsImage, LeftSince, used, used_of, with_written}
-use Rattle.disk_forms.specs.Memory.{Notes, NotesBytes, IsQuiet, IsWrite, with_zeros}
+use Rattle.disk_forms.specs.Memory.{Notes, NotesBytes, IsQuiet, IsWrite, IsTorn, with_zeros}
 use Rattle.disk_forms.specs.MemoryLaws.{steps_last, torn_same, bytewise_same, shortened_same, reads_is, zeros_none}
 
 -- a call that failed was recorded, or the record is as it was
@@ -94,6 +94,8 @@ quiet_used (ToreBytewise place count) quiet = absurd quiet
 quiet_used (CutTo len) quiet = absurd quiet
 quiet_used (MayCut len) quiet = refl
 quiet_used Synced quiet = refl
+quiet_used (Replaced count) quiet = absurd quiet
+quiet_used (MayReplace count) quiet = absurd quiet
 
 pub quiet_reads : (s : Known) (kept : Kept) (bytes : List ℕ) → IsQuiet kept → s.reads ≡ (after s (kept, bytes)).reads
 quiet_reads s Looked bytes quiet = refl
@@ -104,6 +106,8 @@ quiet_reads s (ToreBytewise place count) bytes quiet = absurd quiet
 quiet_reads s (CutTo len) bytes quiet = absurd quiet
 quiet_reads s (MayCut len) bytes quiet = refl
 quiet_reads s Synced bytes quiet = refl
+quiet_reads s (Replaced count) bytes quiet = absurd quiet
+quiet_reads s (MayReplace count) bytes quiet = absurd quiet
 
 -- a write that was well has its bytes, and puts them over what a read gave
 pub write_used : (kept : Kept) (place count : ℕ) → IsWrite kept place count → used kept ≡ count
@@ -115,6 +119,8 @@ write_used (ToreBytewise at n) place count is = absurd is
 write_used (CutTo len) place count is = absurd is
 write_used (MayCut len) place count is = absurd is
 write_used Synced place count is = absurd is
+write_used (Replaced n) place count is = absurd is
+write_used (MayReplace n) place count is = absurd is
 
 pub write_reads : (s : Known) (kept : Kept) (place : ℕ) (bytes : List ℕ) → IsWrite kept place (length bytes) → place ≤ length s.reads →
     with_bytes s.reads place bytes ≡ (after s (kept, bytes)).reads
@@ -127,6 +133,33 @@ write_reads s (ToreBytewise at n) place bytes is within = absurd is
 write_reads s (CutTo len) place bytes is within = absurd is
 write_reads s (MayCut len) place bytes is within = absurd is
 write_reads s Synced place bytes is within = absurd is
+write_reads s (Replaced n) place bytes is within = absurd is
+write_reads s (MayReplace n) place bytes is within = absurd is
+
+-- a call that failed has its bytes, and a read gives the same
+pub torn_used : (kept : Kept) (count : ℕ) → IsTorn kept count → used kept ≡ count
+torn_used Looked count is = absurd is
+torn_used (Wrote at n) count is = absurd is
+torn_used (Tore at n) count is = absurd is
+torn_used (WroteBytewise at n) count is = absurd is
+torn_used (ToreBytewise at n) count is = is
+torn_used (CutTo len) count is = absurd is
+torn_used (MayCut len) count is = absurd is
+torn_used Synced count is = absurd is
+torn_used (Replaced n) count is = absurd is
+torn_used (MayReplace n) count is = is
+
+pub torn_reads : (s : Known) (kept : Kept) (count : ℕ) (bytes : List ℕ) → IsTorn kept count → s.reads ≡ (after s (kept, bytes)).reads
+torn_reads s Looked count bytes is = absurd is
+torn_reads s (Wrote at n) count bytes is = absurd is
+torn_reads s (Tore at n) count bytes is = absurd is
+torn_reads s (WroteBytewise at n) count bytes is = absurd is
+torn_reads s (ToreBytewise at n) count bytes is = refl
+torn_reads s (CutTo len) count bytes is = absurd is
+torn_reads s (MayCut len) count bytes is = absurd is
+torn_reads s Synced count bytes is = absurd is
+torn_reads s (Replaced n) count bytes is = absurd is
+torn_reads s (MayReplace n) count bytes is = refl
 
 -- the same of a call that wrote nothing
 pub with_none : (calls : List Kept) (kept : Kept) (written : List ℕ) → used_of calls ≡ length written → used kept ≡ 0 →
@@ -246,3 +279,29 @@ pub view_call : (first : List ℕ) (calls more : List Call) (n m room : ℕ) (ke
     → record { first = first; calls = more; written = m; room = room } ≡ with_call (record { first = first; calls = calls; written = n; room = room }) kept
     bytes
 view_call first calls more n m room kept bytes is count = λ i. record { first = first; calls = is i; written = count i; room = room }
+
+-- a replacement
+pub replaced_reads : (old new : Recorded) (n : ℕ) (bytes : List ℕ) → new ≡ with_call old (Replaced n) bytes → (known_of new).reads ≡ bytes
+replaced_reads old new n bytes is = ap (λ s. s.reads) (known_is old new (Replaced n) bytes is)
+
+pub replaced_only : (old new : Recorded) (n : ℕ) (bytes : List ℕ) → new ≡ with_call old (Replaced n) bytes → Only bytes (IsImage (known_of new))
+replaced_only old new n bytes is = λ image left. subst (λ k. IsImage k image) (known_is old new (Replaced n) bytes is) left
+
+pub replaced_crash : (old new : Recorded) (n : ℕ) (bytes : List ℕ) → new ≡ with_call old (Replaced n) bytes →
+    LeavesOr bytes (IsImage (known_of old)) (IsImage (known_of new))
+replaced_crash old new n bytes is = λ image left. inr (replaced_only old new n bytes is image left)
+
+pub not_replaced_crash : (old new : Recorded) (bytes : List ℕ) → new ≡ with_call old Looked [] →
+    LeavesOr bytes (IsImage (known_of old)) (IsImage (known_of new))
+not_replaced_crash old new bytes is = λ image left. inl (looked_crash old new (inl is) image left)
+
+pub may_replace_crash : (old new : Recorded) (n : ℕ) (bytes : List ℕ) → MayNoteBytes (MayReplace n) bytes old new →
+    LeavesOr bytes (IsImage (known_of old)) (IsImage (known_of new))
+may_replace_crash old new n bytes (inl is) = λ image left.
+    let s = known_of old in
+    let last = steps_last s.base s.pending (MayReplace n, bytes) image (subst (λ k. IsImage k image) (known_is old new (MayReplace n) bytes is) left) in
+    elim (last.1.1) [
+      | inl same ↦ inl (subst (IsImage s) (sym same) last.1.0)
+      | inr these ↦ inr these
+    ]
+may_replace_crash old new n bytes (inr is) = λ image left. inl (looked_crash old new is image left)

@@ -3,11 +3,11 @@ use Rattle.std.proofs.Common.{◌≡◌, inl, inr, ℕ, ◌+◌, ◌≤◌, List
 use Rattle.std.proofs.Common.{length-drop}
 use Rattle.std.proofs.lemmas.List.{drop-drop}
 use Rattle.disk_forms.specs.declared.histories.Kept.{Kept}
-use Rattle.disk_forms.specs.declared.histories.Kept.TheVariants.{Looked, Wrote, Tore, WroteBytewise, ToreBytewise, CutTo, MayCut, Synced}
+use Rattle.disk_forms.specs.declared.histories.Kept.TheVariants.{Looked, Wrote, Tore, WroteBytewise, ToreBytewise, CutTo, MayCut, Synced, Replaced, MayReplace}
 use Rattle.std.specs.Prelude.{Result, Ok, Err, IfOk, OnOk}
 use Rattle.disk_forms.specs.Memory.{Call, Known, Recorded, fresh, after, known_after, known_of, Steps, IsImage, used, used_of, with_written}
 use Rattle.disk_forms.specs.MemoryLaws.{steps_push, torn_same, bytewise_same, shortened_same, reads_is}
-use Rattle.disk_forms.specs.Crashes.{IsSettled, HasNoSync, read_after, read_after_all, IsSince}
+use Rattle.disk_forms.specs.Crashes.{IsSync, IsSettled, HasNoSync, read_after, read_after_all, IsSince}
 use Rattle.disk_forms.proofs.Calls.{known_more}
 
 pub used_split : (one other : List Kept) → used_of (one ++ other) ≡ used_of one + used_of other
@@ -35,61 +35,82 @@ reads_one s (ToreBytewise place count, bytes) = refl
 reads_one s (CutTo len, bytes) = refl
 reads_one s (MayCut len, bytes) = refl
 reads_one s (Synced, bytes) = refl
+reads_one s (Replaced count, bytes) = refl
+reads_one s (MayReplace count, bytes) = refl
 
 -- what a read gives goes by the calls alone
 pub reads_by : (s : Known) (calls : List Call) → read_after_all s.reads calls ≡ (known_after s calls).reads
 reads_by s [] = refl
 reads_by s (call ∷ calls) = ap (λ b. read_after_all b calls) (reads_one s call) ∙ reads_by (after s call) calls
 
--- after a sync nothing is pending
+-- after a sync or a replacement nothing is pending
+synced_fresh : (s : Known) (kept : Kept) (bytes : List ℕ) → IsSync kept → after s (kept, bytes) ≡ fresh (after s (kept, bytes)).reads
+synced_fresh s Looked bytes is = absurd is
+synced_fresh s (Wrote place count) bytes is = absurd is
+synced_fresh s (Tore place count) bytes is = absurd is
+synced_fresh s (WroteBytewise place count) bytes is = absurd is
+synced_fresh s (ToreBytewise place count) bytes is = absurd is
+synced_fresh s (CutTo len) bytes is = absurd is
+synced_fresh s (MayCut len) bytes is = absurd is
+synced_fresh s Synced bytes is = refl
+synced_fresh s (Replaced count) bytes is = refl
+synced_fresh s (MayReplace count) bytes is = absurd is
+
 settled_fresh : (first : List ℕ) (calls : List Kept) (written : List ℕ) → IsSettled calls → known_after (fresh first) (with_written calls written)
     ≡ fresh (known_after (fresh first) (with_written calls written)).reads
 settled_fresh first calls written (inl none) = subst (λ ks. known_after (fresh first) (with_written ks written)
     ≡ fresh (known_after (fresh first) (with_written ks written)).reads) (sym none) refl
-settled_fresh first calls written (inr (before, is)) =
+settled_fresh first calls written (inr (before, last, sync, is)) =
     let done = with_written before written in
-    let last : with_written calls written ≡ done ++ (Synced, []) ∷ [] = ap (λ ks. with_written ks written) is ∙ with_split before (Synced ∷ []) written in
-    let known : known_after (fresh first) (with_written calls written) ≡ fresh (known_after (fresh first) done).reads = ap (known_after (fresh first)) last
-    ∙ known_more (fresh first) done (Synced, []) in
-    known ∙ sym (ap (λ s. fresh s.reads) known)
+    let bytes : List ℕ = take (used last) (drop (used_of before) written) in
+    let all : with_written calls written ≡ done ++ (last, bytes) ∷ [] = ap (λ ks. with_written ks written) is ∙ with_split before (last ∷ []) written in
+    let known : known_after (fresh first) (with_written calls written) ≡ after (known_after (fresh first) done) (last, bytes) = ap (known_after (fresh first)) all
+    ∙ known_more (fresh first) done (last, bytes) in
+    known ∙ (synced_fresh (known_after (fresh first) done) last bytes sync ∙ sym (ap (λ s. fresh s.reads) known))
 
 -- without a sync the base stays
 base_stays : (s : Known) (calls : List Kept) (written : List ℕ) → HasNoSync calls → (known_after s (with_written calls written)).base ≡ s.base
 base_stays s [] written none = refl
-base_stays s (Looked ∷ calls) written none = base_stays s calls (drop 0 written) none
-base_stays s (Wrote place count ∷ calls) written none = base_stays (after s (Wrote place count, take count written)) calls (drop count written) none
-base_stays s (Tore place count ∷ calls) written none = base_stays (after s (Tore place count, take 0 written)) calls (drop 0 written) none
-base_stays s (WroteBytewise place count ∷ calls) written none = base_stays (after s (WroteBytewise place count, take count written)) calls (drop count written) none
-base_stays s (ToreBytewise place count ∷ calls) written none = base_stays (after s (ToreBytewise place count, take count written)) calls (drop count written) none
-base_stays s (CutTo len ∷ calls) written none = base_stays (after s (CutTo len, take 0 written)) calls (drop 0 written) none
-base_stays s (MayCut len ∷ calls) written none = base_stays (after s (MayCut len, take 0 written)) calls (drop 0 written) none
-base_stays s (Synced ∷ calls) written none = absurd (none)
+base_stays s (Looked ∷ calls) written none = base_stays s calls (drop 0 written) none.1
+base_stays s (Wrote place count ∷ calls) written none = base_stays (after s (Wrote place count, take count written)) calls (drop count written) none.1
+base_stays s (Tore place count ∷ calls) written none = base_stays (after s (Tore place count, take 0 written)) calls (drop 0 written) none.1
+base_stays s (WroteBytewise place count ∷ calls) written none = base_stays (after s (WroteBytewise place count, take count written)) calls (drop count written) none.1
+base_stays s (ToreBytewise place count ∷ calls) written none = base_stays (after s (ToreBytewise place count, take count written)) calls (drop count written) none.1
+base_stays s (CutTo len ∷ calls) written none = base_stays (after s (CutTo len, take 0 written)) calls (drop 0 written) none.1
+base_stays s (MayCut len ∷ calls) written none = base_stays (after s (MayCut len, take 0 written)) calls (drop 0 written) none.1
+base_stays s (Synced ∷ calls) written none = absurd (none.0 tt)
+base_stays s (Replaced count ∷ calls) written none = absurd (none.0 tt)
+base_stays s (MayReplace count ∷ calls) written none = base_stays (after s (MayReplace count, take count written)) calls (drop count written) none.1
 
 -- steps by calls among which no sync is lead from images to images
 pub image_on : (s : Known) (calls : List Kept) (written old image : List ℕ) → HasNoSync calls → IsImage s old →
     Steps old (with_written calls written) image → IsImage (known_after s (with_written calls written)) image
 image_on s [] written old image none is steps = subst (IsImage s) (sym steps) is
 image_on s (Looked ∷ calls) written old image none is steps =
-    image_on s calls (drop 0 written) steps.0 image none (subst (IsImage s) (sym steps.1.0) is) steps.1.1
+    image_on s calls (drop 0 written) steps.0 image none.1 (subst (IsImage s) (sym steps.1.0) is) steps.1.1
 image_on s (Wrote place count ∷ calls) written old image none is steps =
     let call : Call = (Wrote place count, take count written) in
-    image_on (after s call) calls (drop count written) steps.0 image none (steps_push s.base s.pending call old steps.0 is steps.1.0) steps.1.1
+    image_on (after s call) calls (drop count written) steps.0 image none.1 (steps_push s.base s.pending call old steps.0 is steps.1.0) steps.1.1
 image_on s (Tore place count ∷ calls) written old image none is steps =
     let call : Call = (Tore place count, take 0 written) in
-    image_on (after s call) calls (drop 0 written) steps.0 image none (steps_push s.base s.pending call old steps.0 is steps.1.0) steps.1.1
+    image_on (after s call) calls (drop 0 written) steps.0 image none.1 (steps_push s.base s.pending call old steps.0 is steps.1.0) steps.1.1
 image_on s (WroteBytewise place count ∷ calls) written old image none is steps =
     let call : Call = (WroteBytewise place count, take count written) in
-    image_on (after s call) calls (drop count written) steps.0 image none (steps_push s.base s.pending call old steps.0 is steps.1.0) steps.1.1
+    image_on (after s call) calls (drop count written) steps.0 image none.1 (steps_push s.base s.pending call old steps.0 is steps.1.0) steps.1.1
 image_on s (ToreBytewise place count ∷ calls) written old image none is steps =
     let call : Call = (ToreBytewise place count, take count written) in
-    image_on (after s call) calls (drop count written) steps.0 image none (steps_push s.base s.pending call old steps.0 is steps.1.0) steps.1.1
+    image_on (after s call) calls (drop count written) steps.0 image none.1 (steps_push s.base s.pending call old steps.0 is steps.1.0) steps.1.1
 image_on s (CutTo len ∷ calls) written old image none is steps =
     let call : Call = (CutTo len, take 0 written) in
-    image_on (after s call) calls (drop 0 written) steps.0 image none (steps_push s.base s.pending call old steps.0 is steps.1.0) steps.1.1
+    image_on (after s call) calls (drop 0 written) steps.0 image none.1 (steps_push s.base s.pending call old steps.0 is steps.1.0) steps.1.1
 image_on s (MayCut len ∷ calls) written old image none is steps =
     let call : Call = (MayCut len, take 0 written) in
-    image_on (after s call) calls (drop 0 written) steps.0 image none (steps_push s.base s.pending call old steps.0 is steps.1.0) steps.1.1
-image_on s (Synced ∷ calls) written old image none is steps = absurd (none)
+    image_on (after s call) calls (drop 0 written) steps.0 image none.1 (steps_push s.base s.pending call old steps.0 is steps.1.0) steps.1.1
+image_on s (Synced ∷ calls) written old image none is steps = absurd (none.0 tt)
+image_on s (Replaced count ∷ calls) written old image none is steps = absurd (none.0 tt)
+image_on s (MayReplace count ∷ calls) written old image none is steps =
+    let call : Call = (MayReplace count, take count written) in
+    image_on (after s call) calls (drop count written) steps.0 image none.1 (steps_push s.base s.pending call old steps.0 is steps.1.0) steps.1.1
 
 -- what the last good sync left is an image
 base_after : (s : Known) (call : Call) → IsImage s s.base → IsImage (after s call) (after s call).base
@@ -103,6 +124,8 @@ base_after s (ToreBytewise place count, bytes) is = steps_push s.base s.pending 
 base_after s (CutTo len, bytes) is = steps_push s.base s.pending (CutTo len, bytes) s.base s.base is (shortened_same len s.base)
 base_after s (MayCut len, bytes) is = steps_push s.base s.pending (MayCut len, bytes) s.base s.base is (shortened_same len s.base)
 base_after s (Synced, bytes) is = refl
+base_after s (Replaced count, bytes) is = refl
+base_after s (MayReplace count, bytes) is = steps_push s.base s.pending (MayReplace count, bytes) s.base s.base is (inl refl)
 
 pub base_is : (s : Known) (calls : List Call) → IsImage s s.base → IsImage (known_after s calls) (known_after s calls).base
 base_is s [] is = is

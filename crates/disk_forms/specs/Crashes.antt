@@ -1,24 +1,23 @@
 -- What a crash may leave of a disk in memory: the calls since the last good sync, and what each may have done.
 use Rattle.std.specs.Prelude.{◌≡◌, ◌⊎◌, ℕ, ◌≤◌, List, [], ◌∷◌, ◌++◌}
 use Rattle.disk_forms.specs.declared.histories.Kept.{Kept}
-use Rattle.disk_forms.specs.declared.histories.Kept.TheVariants.{Looked, Wrote, Tore, WroteBytewise, ToreBytewise, CutTo, MayCut, Synced}
+use Rattle.disk_forms.specs.declared.histories.Kept.TheVariants.{Synced, Replaced}
 use Rattle.disk_forms.specs.Memory.{Call, Known, Recorded, fresh, after, Steps, IsImage}
 
--- nothing was done yet, or a sync was done last
-abbrev pub IsSettled : List Kept → Type 0
-IsSettled calls = (calls ≡ []) ⊎ ((before : List Kept) × (calls ≡ before ++ Synced ∷ []))
+-- after this call a crash leaves what a read gives, and nothing else
+abbrev pub IsSync : Kept → Type 0
+IsSync Synced = Unit {0}
+IsSync (Replaced count) = Unit {0}
+IsSync _ = ⊥
 
--- none of these is a sync
+-- nothing was done yet, or a sync or a replacement was done last
+abbrev pub IsSettled : List Kept → Type 0
+IsSettled calls = (calls ≡ []) ⊎ ((before : List Kept) × (last : Kept) × IsSync last × (calls ≡ before ++ last ∷ []))
+
+-- none of these is a sync, or a replacement that was done
 abbrev pub HasNoSync : List Kept → Type 0
 HasNoSync [] = Unit {0}
-HasNoSync (Looked ∷ calls) = HasNoSync calls
-HasNoSync (Wrote place count ∷ calls) = HasNoSync calls
-HasNoSync (Tore place count ∷ calls) = HasNoSync calls
-HasNoSync (WroteBytewise place count ∷ calls) = HasNoSync calls
-HasNoSync (ToreBytewise place count ∷ calls) = HasNoSync calls
-HasNoSync (CutTo len ∷ calls) = HasNoSync calls
-HasNoSync (MayCut len ∷ calls) = HasNoSync calls
-HasNoSync (Synced ∷ calls) = ⊥
+HasNoSync (kept ∷ calls) = (IsSync kept → ⊥) × HasNoSync calls
 
 -- what a read gives after a call, where it gave these bytes before
 abbrev pub read_after : List ℕ → Call → List ℕ

@@ -1,9 +1,9 @@
 -- A disk in memory: the record of its calls, and what it knows by it.
-use Rattle.std.specs.Prelude.{◌≡◌, ◌⊎◌, ℕ, ◌+◌, ◌<◌, ◌≤◌, List, [], ◌∷◌, ◌++◌, length, take, drop, replicate, ◌-◌, true, false, Result, Ok, Err}
+use Rattle.std.specs.Prelude.{◌≡◌, ◌⊎◌, ℕ, ◌+◌, ◌<◌, ◌≤◌, List, [], ◌∷◌, ◌++◌, length, take, drop, replicate, ◌-◌, Bool, true, false, Result, Ok, Err}
 use Rattle.tardis_io.specs.declared.faults.Failed.{Failed}
 use Rattle.tardis_io.specs.Memory.{Plan, fails_next, after_call, after_fault}
 use Rattle.disk_forms.specs.declared.histories.Kept.{Kept}
-use Rattle.disk_forms.specs.declared.histories.Kept.TheVariants.{Looked, Wrote, Tore, WroteBytewise, ToreBytewise, CutTo, MayCut, Synced}
+use Rattle.disk_forms.specs.declared.histories.Kept.TheVariants.{Looked, Wrote, Tore, WroteBytewise, ToreBytewise, CutTo, MayCut, Synced, Replaced, MayReplace}
 use Rattle.disk_store.specs.Disks.{with_bytes, Torn, Bytewise, Shortened}
 
 -- a call, and the bytes that are kept of it
@@ -38,6 +38,8 @@ after s (ToreBytewise place count, bytes) = record { reads = s.reads; base = s.b
 after s (CutTo len, bytes) = record { reads = take len s.reads; base = s.base; pending = s.pending ++ (CutTo len, bytes) ∷ [] }
 after s (MayCut len, bytes) = record { reads = s.reads; base = s.base; pending = s.pending ++ (MayCut len, bytes) ∷ [] }
 after s (Synced, bytes) = fresh s.reads
+after s (Replaced count, bytes) = fresh bytes
+after s (MayReplace count, bytes) = record { reads = s.reads; base = s.base; pending = s.pending ++ (MayReplace count, bytes) ∷ [] }
 
 abbrev pub known_after : Known → List Call → Known
 known_after s [] = s
@@ -51,6 +53,7 @@ IsStep (WroteBytewise place count, bytes) = Bytewise place bytes
 IsStep (ToreBytewise place count, bytes) = Bytewise place bytes
 IsStep (CutTo len, bytes) = Shortened len
 IsStep (MayCut len, bytes) = Shortened len
+IsStep (MayReplace count, bytes) = λ old new. (new ≡ old) ⊎ (new ≡ bytes)
 IsStep (_, bytes) = λ old new. new ≡ old
 
 -- what it may make by all of them, in order
@@ -68,11 +71,13 @@ LeftSince ℕ.zero s (call ∷ calls) image = IsImage s image ⊎ LeftSince ℕ.
 LeftSince (ℕ.suc t) s [] image = ⊥
 LeftSince (ℕ.suc t) s (call ∷ calls) image = LeftSince t (after s call) calls image
 
--- how many bytes of a call are kept: those that it wrote, and those that it may have written in part
+-- how many bytes of a call are kept: those that it wrote, and those that it may have written, in part or all
 abbrev pub used : Kept → ℕ
 used (Wrote place count) = count
 used (WroteBytewise place count) = count
 used (ToreBytewise place count) = count
+used (Replaced count) = count
+used (MayReplace count) = count
 used _ = 0
 
 abbrev pub used_of : List Kept → ℕ
@@ -104,12 +109,20 @@ IsWrite (Wrote at n) place count = (at ≡ place) × (n ≡ count)
 IsWrite (WroteBytewise at n) place count = (at ≡ place) × (n ≡ count)
 IsWrite _ place count = ⊥
 
+-- a call that failed, and of which so many bytes are kept
+abbrev pub IsTorn : Kept → ℕ → Type 0
+IsTorn (ToreBytewise place n) count = n ≡ count
+IsTorn (MayReplace n) count = n ≡ count
+IsTorn _ count = ⊥
+
 -- a call that changes nothing of what a read gives, and of which no bytes are kept
 abbrev pub IsQuiet : Kept → Type 0
 IsQuiet (Wrote place count) = ⊥
 IsQuiet (WroteBytewise place count) = ⊥
 IsQuiet (ToreBytewise place count) = ⊥
 IsQuiet (CutTo len) = ⊥
+IsQuiet (Replaced count) = ⊥
+IsQuiet (MayReplace count) = ⊥
 IsQuiet _ = Unit {0}
 
 -- one more call that writes so many bytes finds room
@@ -140,3 +153,10 @@ pub record NotesBytes (kept : Kept) (bytes : List ℕ) (old new : Recorded) : Ty
 abbrev pub Records : {T : Type 0} → Kept → List ℕ → (Recorded → Recorded → Type 0) → Recorded → Recorded → Result T Failed → Type 0
 Records done bytes WhereFailed old new (Ok answer) = new ≡ with_call old done bytes
 Records done bytes WhereFailed old new (Err e) = WhereFailed old new
+
+-- A replacement by these bytes that was well is recorded with them, where they find room, and as one that changed nothing, where they
+-- don't. One that failed leaves what was there, or these.
+abbrev pub RecordsReplaced : List ℕ → Recorded → Recorded → Result Bool Failed → Type 0
+RecordsReplaced bytes old new (Ok true) = HasRoom old (length bytes) × (new ≡ with_call old (Replaced (length bytes)) bytes)
+RecordsReplaced bytes old new (Ok false) = IsFull old (length bytes) × (new ≡ with_call old Looked [])
+RecordsReplaced bytes old new (Err e) = NotesBytes (MayReplace (length bytes)) bytes old new

@@ -1,10 +1,10 @@
 -- What contracts see of a disk in memory.
-use Rattle.std.specs.Prelude.{ℕ, List, length, Result}
+use Rattle.std.specs.Prelude.{ℕ, List, length, Bool, Result}
 use Rattle.tardis_io.specs.declared.faults.Failed.{Failed}
 use Rattle.disk_store.specs.Disks.{Elapses}
 use Rattle.disk_forms.specs.declared.histories.Kept.{Kept}
 use Rattle.disk_forms.specs.declared.memory_disks.MemoryDisk.{MemoryDisk}
-use Rattle.disk_forms.specs.Memory.{Recorded, known_of, fresh, IsImage, LeftSince, PlanAnswers, Records}
+use Rattle.disk_forms.specs.Memory.{Recorded, known_of, fresh, IsImage, LeftSince, PlanAnswers, Records, RecordsReplaced}
 
 -- what a read gives
 abbrev pub reads : MemoryDisk → List ℕ
@@ -31,3 +31,9 @@ GoesOn old new = Elapses (moment old) (moment new) (left_since old) (left_since 
 pub record Calls {T : Type 0} (done : Kept) (bytes : List ℕ) (WhereFailed : Recorded → Recorded → Type 0) (old new : MemoryDisk) (result : Result T Failed) : Type 0 where
   pub answer : PlanAnswers old.history (length bytes) old.plan new.plan result
   pub recorded : Records done bytes WhereFailed old.history new.history result
+
+-- What a replacement by these bytes does: it fails exactly where it is listed or finds no room for one call more, and answers whether
+-- the bytes find room.
+pub record Replaces (bytes : List ℕ) (old new : MemoryDisk) (result : Result Bool Failed) : Type 0 where
+  pub answer : PlanAnswers old.history 0 old.plan new.plan result
+  pub recorded : RecordsReplaced bytes old.history new.history result

@@ -4,7 +4,7 @@ use Rattle.std.proofs.Common.{length-take, length-drop, length-append}
 use Rattle.std.specs.Prelude.{min, max, replicate, slice_index}
 use Rattle.std.proofs.lemmas.Bool.{cases_lt}
 use Rattle.std.proofs.lemmas.List.{length-replicate, take_at, drop_at, take_all, drop_all, get_or_append_left, get_or-append_right, get_or-take, get_or-drop, get_or_past}
-use Rattle.disk_forms.specs.declared.histories.Kept.TheVariants.{Looked, Wrote, Tore, WroteBytewise, ToreBytewise, CutTo, MayCut, Synced}
+use Rattle.disk_forms.specs.declared.histories.Kept.TheVariants.{Looked, Wrote, Tore, WroteBytewise, ToreBytewise, CutTo, MayCut, Synced, Replaced, MayReplace}
 use Rattle.disk_store.specs.Disks.{with_bytes, Torn, Bytewise, Shortened}
 use Rattle.disk_forms.specs.Memory.{Call, Known, with_zeros, after, known_after, IsStep, Steps, IsImage, LeftSince}
 
@@ -179,6 +179,8 @@ reads_after s (ToreBytewise place count, bytes) is = steps_push s.base s.pending
 reads_after s (CutTo len, bytes) is = steps_push s.base s.pending (CutTo len, bytes) s.reads (take len s.reads) is (shortened len s.reads)
 reads_after s (MayCut len, bytes) is = steps_push s.base s.pending (MayCut len, bytes) s.reads s.reads is (shortened_same len s.reads)
 reads_after s (Synced, bytes) is = refl
+reads_after s (Replaced count, bytes) is = refl
+reads_after s (MayReplace count, bytes) is = steps_push s.base s.pending (MayReplace count, bytes) s.reads s.reads is (inl refl)
 
 pub reads_is : (s : Known) (calls : List Call) → IsImage s s.reads → IsImage (known_after s calls) (known_after s calls).reads
 reads_is s [] is = is

@@ -77,7 +77,7 @@ impl Digits {
     }
 }
 
-/// How many of the calls there are up to the last sync, with it.
+/// How many of the calls there are up to the last sync, with it. A replacement that was done counts as one.
 pub(crate) fn count_to_sync(calls: &[Kept]) -> usize
     ensures within { result ≤ length calls.now }
     ensures settled { IsSettled (take result calls.now) }
@@ -85,7 +85,7 @@ pub(crate) fn count_to_sync(calls: &[Kept]) -> usize
 {
     let mut count = calls.len();
     while count > 0 {
-        if let Kept::Synced = calls[count - 1] {
+        if calls[count - 1].is_sync() {
             return count;
         }
         count -= 1;
@@ -132,10 +132,12 @@ fn redo_one(image: &mut Vec<u8>, kept: Kept, bytes: &[u8]) -> Result<(), NoMemor
             overwrite(image, place as usize, bytes);
         }
         Kept::CutTo { len } => image.truncate(len as usize),
+        Kept::Replaced { count: _ } => fill_with(image, bytes)?,
         Kept::Looked
         | Kept::Tore { .. }
         | Kept::ToreBytewise { .. }
         | Kept::MayCut { .. }
+        | Kept::MayReplace { .. }
         | Kept::Synced => {}
     }
     Ok(())
@@ -191,7 +193,22 @@ fn tear_one(
             image.truncate(image.len() - less);
             Ok(())
         }
-        Kept::Looked | Kept::Synced => Ok(()),
+        Kept::MayReplace { count: _ } => match digits.up_to(1) {
+            0 => Ok(()),
+            _ => fill_with(image, bytes),
+        },
+        Kept::Looked | Kept::Synced | Kept::Replaced { .. } => Ok(()),
+    }
+}
+
+/// Puts bytes in the place of all that are there.
+fn fill_with(image: &mut Vec<u8>, bytes: &[u8]) -> Result<(), NoMemory>
+    ensures { OnOk result (image.new.items ≡ bytes.now) }
+{
+    image.truncate(0);
+    match image.extend_from_slice(bytes) {
+        Ok(()) => Ok(()),
+        Err(_) => Err(NoMemory),
     }
 }
 

@@ -1,10 +1,12 @@
 //! Disks over the system's files. No contract can say what a file keeps, so these aren't told to be honest, and tell
 //! nothing.
 
-ghost use Rattle.std.specs.Prelude.{◌≡◌, ◌≤◌, []};
+ghost use Rattle.std.specs.Prelude.{◌≡◌, ◌≤◌, false, []};
 ghost use Rattle.tardis_io.specs.Faults.{Rose, HasCause};
 
+use crate::file_paths::FilePath;
 use disk_store::{BytewiseDisk, Disk};
+use std::fs::Files;
 use std::os::unix::fs::FileExt;
 use std::{fs, io};
 use tardis_io::Failed;
@@ -17,21 +19,29 @@ const LONGEST: u64 = 1 << 63;
 ///
 /// A sync after a cut writes all that the system knows of the file. One after writes alone writes the bytes, and of what
 /// the system knows what is needed to read them back, which includes a length that grew.
+///
+/// A replacement is written to a file beside it, which then takes its name; this disk is that one from then on. Where that
+/// file couldn't be written, or couldn't get the name, all is as before, and no fault is counted; it is told why on standard
+/// error, once until one is made. It is a fault where the name may be gone after a crash.
 #[derive(Drop)]
-pub struct FileDisk {
+pub struct FileDisk<R> {
     file: fs::File,
+    path: Option<FilePath<R>>,
     was_cut: bool,
+    is_told: bool,
     faults: u64,
 }
 
-impl FileDisk {
-    /// A file that was opened for reading and writing, and that nobody else has.
-    pub fn new(file: fs::File) -> FileDisk
+impl<R: Drop> FileDisk<R> {
+    /// A file that is locked, and the path at which it may be replaced by another.
+    pub(crate) fn new(file: fs::File, path: Option<FilePath<R>>) -> FileDisk<R>
         ensures { result.faults ≡ 0 }
     {
         FileDisk {
             file,
+            path,
             was_cut: true,
+            is_told: false,
             faults: 0,
         }
     }
@@ -62,7 +72,22 @@ impl FileDisk {
     }
 }
 
-impl Disk for FileDisk {
+impl<R: Files<File = fs::File> + Eprint + Drop> FileDisk<R> {
+    /// Tells why the file isn't replaced, unless that was told since one was.
+    fn decline(&mut self, kind: io::ErrorKind) -> bool
+        ensures answer { result ≡ false }
+        ensures faults { self.new.faults ≡ self.old.faults }
+    {
+        match &self.path {
+            Some(path) if !self.is_told => path.tell(kind),
+            _ => {}
+        }
+        self.is_told = true;
+        false
+    }
+}
+
+impl<R: Files<File = fs::File> + Eprint + Drop> Disk for FileDisk<R> {
     ghost honest = { λ _. ⊥ };
 
     ghost reads = { λ _. [] };
@@ -119,6 +144,29 @@ impl Disk for FileDisk {
         }
     }
 
+    fn replace(&mut self, bytes: &[u8]) -> Result<bool, Failed> {
+        let Some(path) = &self.path else {
+            return Ok(false);
+        };
+        let beside = match path.write_beside(&self.file, bytes) {
+            Ok(beside) => beside,
+            Err(error) => return Ok(self.decline(error.kind())),
+        };
+        match path.rename(&self.file, &beside) {
+            Ok(None) => {}
+            Ok(Some(kind)) => return Ok(self.decline(kind)),
+            Err(_) => return Err(self.fail()),
+        }
+        let (file, synced) = path.settle(beside);
+        self.file = file;
+        self.was_cut = false;
+        self.is_told = false;
+        match synced {
+            Ok(()) => Ok(true),
+            Err(_) => Err(self.fail()),
+        }
+    }
+
     ghost reads_image = { λ d h. tt };
 
     ghost counts_now = { λ d t image le is. tt };
@@ -126,7 +174,7 @@ impl Disk for FileDisk {
     ghost only_now = { λ d image left. tt };
 }
 
-impl BytewiseDisk for FileDisk {
+impl<R: Files<File = fs::File> + Eprint + Drop> BytewiseDisk for FileDisk<R> {
     fn write_bytewise(&mut self, place: u64, bytes: &[u8]) -> Result<(), Failed> {
         self.write(place, bytes)
     }
@@ -149,7 +197,7 @@ fn read_all(file: &fs::File, place: u64, buf: &mut [u8]) -> io::Result<()> {
 }
 
 /// Writes all bytes from a place on.
-fn write_all(file: &fs::File, place: u64, bytes: &[u8]) -> io::Result<()> {
+pub(crate) fn write_all(file: &fs::File, place: u64, bytes: &[u8]) -> io::Result<()> {
     let mut done = 0;
     while done < bytes.len() {
         let Some(at) = place.checked_add(done as u64) else {

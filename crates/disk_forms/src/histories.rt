@@ -2,9 +2,9 @@
 
 ghost use Rattle.std.specs.Prelude.{◌≡◌, ◌+◌, ◌<◌, ◌≤◌, true, false, [], ◌∷◌, ◌++◌, length, take, drop, vec_capacity, IfOk, OnOk};
 ghost use Rattle.disk_store.specs.Disks.{with_bytes, Torn, Shortened};
-ghost use Rattle.disk_forms.specs.Memory.{known_of, with_call, with_written, used, used_of, IsWrite, IsQuiet, IsImage, HasRoom, IsFull};
-ghost use Rattle.disk_forms.specs.Crashes.{unused, IsSince};
-ghost use Rattle.disk_forms.specs.declared.histories.Kept.TheVariants.{ToreBytewise, CutTo};
+ghost use Rattle.disk_forms.specs.Memory.{known_of, with_call, with_written, used, used_of, IsWrite, IsTorn, IsQuiet, IsImage, HasRoom, IsFull};
+ghost use Rattle.disk_forms.specs.Crashes.{unused, IsSync, IsSince};
+ghost use Rattle.disk_forms.specs.declared.histories.Kept.TheVariants.{CutTo, Replaced};
 
 use crate::crashes::{Digits, count_to_sync, redo, tear};
 use std::alloc::Global;
@@ -27,6 +27,10 @@ pub enum Kept {
     /// A cut failed.
     MayCut { len: u64 },
     Synced,
+    /// So many bytes were put in the place of all, which counts as a sync of them.
+    Replaced { count: usize },
+    /// A replacement by so many bytes failed. They are kept: a crash may leave them, or what it might have left before.
+    MayReplace { count: usize },
 }
 
 /// The bytes that a disk held at first and the calls since, in room that was taken at first. It is seen as these, and
@@ -103,7 +107,7 @@ impl History {
     }
 
     /// What a crash now leaves, by the choice: of 0 what a read gives, of 1 what the last good sync left, and of another
-    /// number what its digits make of the calls since.
+    /// number what its digits make of the calls since. A replacement that was done counts as a sync.
     pub(crate) fn image(&self, choice: u64) -> Result<Vec<u8>, NoMemory>
         ensures image { IfOk result (λ v. IsImage (known_of self.now) v.items) }
         ensures whole { choice ≡ 0 → IfOk result (λ v. v.items ≡ (known_of self.now).reads) }
@@ -209,15 +213,28 @@ impl History {
         push_call(&mut self.calls, kept);
     }
 
-    /// Records a bytewise write that failed, with its bytes.
-    pub(crate) fn keep(&mut self, place: u64, bytes: &[u8])
+    /// Records a call that failed, with its bytes.
+    pub(crate) fn keep(&mut self, kept: Kept, bytes: &[u8])
+        requires kept { IsTorn kept (length bytes.now) }
         requires room { length self.old.calls < self.old.room }
         requires bytes { self.old.written + length bytes.now ≤ self.old.room }
-        ensures { self.new ≡ with_call self.old (ToreBytewise place (length bytes.now)) bytes.now }
+        ensures { self.new ≡ with_call self.old kept bytes.now }
     {
         push_bytes(&mut self.written, bytes);
+        push_call(&mut self.calls, kept);
+    }
+
+    /// Puts bytes in the place of all that are there.
+    pub(crate) fn replace(&mut self, bytes: &[u8])
+        requires room { length self.old.calls < self.old.room }
+        requires bytes { self.old.written + length bytes.now ≤ self.old.room }
+        ensures { self.new ≡ with_call self.old (Replaced (length bytes.now)) bytes.now }
+    {
         let count = bytes.len();
-        push_call(&mut self.calls, Kept::ToreBytewise { place, count });
+        self.bytes.truncate(0);
+        push_bytes(&mut self.bytes, bytes);
+        push_bytes(&mut self.written, bytes);
+        push_call(&mut self.calls, Kept::Replaced { count });
     }
 
     /// Cuts the bytes behind a length off.
@@ -231,6 +248,24 @@ impl History {
 }
 
 impl Kept {
+    /// Whether a crash leaves what a read gives after the call, and nothing else.
+    pub(crate) fn is_sync(self) -> bool
+        ensures sync { result ≡ true → IsSync self }
+        ensures none { result ≡ false → IsSync self → ⊥ }
+    {
+        match self {
+            Kept::Synced | Kept::Replaced { .. } => true,
+            Kept::Looked
+            | Kept::Wrote { .. }
+            | Kept::Tore { .. }
+            | Kept::WroteBytewise { .. }
+            | Kept::ToreBytewise { .. }
+            | Kept::CutTo { .. }
+            | Kept::MayCut { .. }
+            | Kept::MayReplace { .. } => false,
+        }
+    }
+
     /// How many bytes of the call are kept.
     pub(crate) fn used(self) -> usize
         ensures { result ≡ used self }
@@ -238,7 +273,9 @@ impl Kept {
         match self {
             Kept::Wrote { place: _, count }
             | Kept::WroteBytewise { place: _, count }
-            | Kept::ToreBytewise { place: _, count } => count,
+            | Kept::ToreBytewise { place: _, count }
+            | Kept::Replaced { count }
+            | Kept::MayReplace { count } => count,
             Kept::Looked
             | Kept::Tore { .. }
             | Kept::CutTo { .. }

@@ -3,6 +3,7 @@
 
 mod crashes;
 mod file_disks;
+mod file_paths;
 mod file_stores;
 mod histories;
 mod memory_disks;

@@ -1,11 +1,11 @@
 //! A disk in memory, of which some calls may fail, and which a crash may tear.
 
-ghost use Rattle.std.specs.Prelude.{◌≡◌, ◌+◌, ◌≤◌, [], length, take, drop, IfOk, OnOk};
+ghost use Rattle.std.specs.Prelude.{◌≡◌, ◌+◌, ◌≤◌, true, false, [], Ok, length, take, drop, IfOk, OnOk};
 ghost use Rattle.tardis_io.specs.Faults.{HasCause};
 ghost use Rattle.tardis_io.specs.Memory.{fresh_plan};
-ghost use Rattle.disk_store.specs.Disks.{longest_disk, with_bytes, Torn, Bytewise, Shortened, Follows, NoMore, Only};
+ghost use Rattle.disk_store.specs.Disks.{longest_disk, with_bytes, Torn, Bytewise, Shortened, Replaced, Follows, NoMore, Only};
 ghost use Rattle.disk_forms.specs.declared.histories.Kept.TheVariants.{Looked, Wrote, Tore, WroteBytewise, ToreBytewise, CutTo, MayCut, Synced};
-ghost use Rattle.disk_forms.specs.Memory.{fresh, known_of, IsImage, IsQuiet, Notes, NotesBytes, PlanAnswers};
+ghost use Rattle.disk_forms.specs.Memory.{fresh, known_of, IsImage, IsTorn, IsQuiet, Notes, NotesBytes, PlanAnswers};
 ghost use Rattle.disk_forms.specs.Crashes.{unused};
 ghost use Rattle.disk_forms.specs.MemoryLaws.{reads_is, counts_now, only_now};
 ghost use Rattle.std.proofs.Common.{refl};
@@ -27,8 +27,9 @@ pub struct MemoryDisk {
 impl MemoryDisk {
     /// A disk that holds these bytes, all of them synced, with room for `room` written bytes and for the record of
     /// `room` calls. A call fails exactly where it is listed, counted from 1, where its bytes and those that were
-    /// written before are more than `room`, and where there were `room` calls before it. The bytes of a bytewise write
-    /// that failed count as written, where there was room for them.
+    /// written before are more than `room`, and where there were `room` calls before it. The bytes of a bytewise write or a
+    /// replacement that failed count as written, where there was room for them. A replacement whose bytes find no room isn't
+    /// done, and doesn't fail.
     pub fn new(
         alloc: Global,
         bytes: &[u8],
@@ -51,10 +52,10 @@ impl MemoryDisk {
     }
 
     /// A disk that holds what a crash now leaves, by the choice: 0 is what a read gives, and 1 what the last good sync
-    /// left. From 2 on each call since that sync is there in part, or not at all: small numbers go through what may
+    /// left, where a replacement that was done counts as a sync. From 2 on each call since that sync is there in part, or not at all: small numbers go through what may
     /// become of the first of them, the fronts of a write or a cut first, then such with bytes that nobody wrote, or of a
     /// bytewise write all bytes but one and other mixes of old bytes and new ones, and large numbers tear the later
-    /// calls too. All of it is synced, the room is the same and empty, and no call is listed to fail.
+    /// calls too. A replacement that failed is there as a whole, or not at all. All of it is synced, the room is the same and empty, and no call is listed to fail.
     ///
     /// Where there is no memory for it, the disk is dropped.
     pub fn crash(self, choice: u64) -> Result<MemoryDisk, NoMemory>
@@ -103,19 +104,20 @@ fn note_fault(history: &mut History, kept: Kept)
     }
 }
 
-/// Records a bytewise write that failed, with its bytes where there is room for them.
-fn note_torn(history: &mut History, place: u64, bytes: &[u8])
-    ensures { NotesBytes (ToreBytewise place (length bytes.now)) bytes.now history.old history.new }
+/// Records a call that failed, with its bytes where there is room for them.
+fn note_torn(history: &mut History, kept: Kept, bytes: &[u8])
+    requires { IsTorn kept (length bytes.now) }
+    ensures { NotesBytes kept bytes.now history.old history.new }
 {
     if history.has_room(bytes.len()) {
-        history.keep(place, bytes);
+        history.keep(kept, bytes);
     } else {
         note_fault(history, Kept::Looked);
     }
 }
 
 impl Disk for MemoryDisk {
-    ghost use Rattle.disk_forms.specs.MemoryDisks.{reads, may_leave, moment, left_since, GoesOn, Calls};
+    ghost use Rattle.disk_forms.specs.MemoryDisks.{reads, may_leave, moment, left_since, GoesOn, Calls, Replaces};
 
     ghost honest = { λ _. Unit {0} };
 
@@ -235,6 +237,33 @@ impl Disk for MemoryDisk {
         }
     }
 
+    fn replace(&mut self, bytes: &[u8]) -> Result<bool, Failed>
+        requires { length bytes.now ≤ longest_disk }
+        ensures replaced { result ≡ Ok true → (reads self.new ≡ bytes.now) × Only bytes.now (may_leave self.new) }
+        ensures same { result ≡ Ok false → (reads self.new ≡ reads self.old) × NoMore (may_leave self.old) (may_leave self.new) }
+        ensures crash { Replaced bytes.now (may_leave self.old) (may_leave self.new) }
+        ensures time { GoesOn self.old self.new }
+        ensures cause { HasCause self.old.plan.faults self.new.plan.faults result }
+        ensures exact { Replaces bytes.now self.old self.new result }
+    {
+        let count = bytes.len();
+        match start(&mut self.plan, &self.history, 0) {
+            Ok(()) => {
+                if self.history.has_room(count) {
+                    self.history.replace(bytes);
+                    Ok(true)
+                } else {
+                    self.history.note(Kept::Looked);
+                    Ok(false)
+                }
+            }
+            Err(Failed) => {
+                note_torn(&mut self.history, Kept::MayReplace { count }, bytes);
+                Err(Failed)
+            }
+        }
+    }
+
     ghost reads_image = { λ d _. reads_is (fresh d.history.first) d.history.calls refl };
 
     ghost counts_now = { λ d t image le is. counts_now t (fresh d.history.first) d.history.calls image le is };
@@ -262,7 +291,8 @@ impl BytewiseDisk for MemoryDisk {
                 Ok(())
             }
             Err(Failed) => {
-                note_torn(&mut self.history, place, bytes);
+                let kept = Kept::ToreBytewise { place, count };
+                note_torn(&mut self.history, kept, bytes);
                 Err(Failed)
             }
         }

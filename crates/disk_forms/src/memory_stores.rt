@@ -23,8 +23,8 @@ pub enum Held {
     Back(MemoryDisk),
 }
 
-/// A store of one disk in memory, at one path, which it gives once. Opening it a second time is a counted fault, also after
-/// it was put back, and so is opening another path, which it counts apart too.
+/// A store of one disk in memory, at one path, which it gives once, opened or found. Asking for it a second time is a counted
+/// fault, also after it was put back, and so is asking for another path, which it counts apart too.
 #[derive(Drop)]
 pub struct MemoryStore {
     path: String,
@@ -72,20 +72,14 @@ impl MemoryStore {
             Held::Out => None,
         }
     }
-}
 
-impl Store for MemoryStore {
-    type Disk = MemoryDisk;
-
-    ghost honest = { λ _. Unit {0} };
-
-    ghost told = { λ s. Some s.told };
-
-    ghost faults = { λ s. s.faults };
-
-    ghost locked = { λ s. s.locked };
-
-    fn open_file(&mut self, path: &str) -> Result<MemoryDisk, Failed> {
+    /// The disk at a path.
+    fn hand_out(&mut self, path: &str) -> Result<MemoryDisk, Failed>
+        ensures fresh { IfOk result (λ disk. disk.plan.faults ≡ 0) }
+        ensures told { Opens path.now (Some self.old.told) (Some self.new.told) result }
+        ensures locked { FindsHeld path.now (Some self.old.told) self.new.locked result }
+        ensures cause { HasCause self.old.faults self.new.faults result }
+    {
         self.is_locked = false;
         if path != self.path.as_str() {
             self.elsewhere = self.elsewhere.saturating_add(1);
@@ -105,6 +99,26 @@ impl Store for MemoryStore {
                 Err(Failed)
             }
         }
+    }
+}
+
+impl Store for MemoryStore {
+    type Disk = MemoryDisk;
+
+    ghost honest = { λ _. Unit {0} };
+
+    ghost told = { λ s. Some s.told };
+
+    ghost faults = { λ s. s.faults };
+
+    ghost locked = { λ s. s.locked };
+
+    fn open_file(&mut self, path: &str) -> Result<MemoryDisk, Failed> {
+        self.hand_out(path)
+    }
+
+    fn find_file(&mut self, path: &str) -> Result<MemoryDisk, Failed> {
+        self.hand_out(path)
     }
 
     fn put_back(&mut self, disk: MemoryDisk) {

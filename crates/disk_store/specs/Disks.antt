@@ -39,6 +39,10 @@ Follows step old new = (image : List ℕ) → new image → (was : List ℕ) × 
 abbrev pub NoMore : (List ℕ → Type 0) → (List ℕ → Type 0) → Type 0
 NoMore old new = (image : List ℕ) → new image → old image
 
+-- each image that may be left now might have been left before, or has these bytes and no others
+abbrev pub Replaced : List ℕ → (List ℕ → Type 0) → (List ℕ → Type 0) → Type 0
+Replaced bytes old new = (image : List ℕ) → new image → old image ⊎ (image ≡ bytes)
+
 -- a crash leaves these bytes and nothing else
 abbrev pub Only : List ℕ → (List ℕ → Type 0) → Type 0
 Only bytes images = (image : List ℕ) → images image → image ≡ bytes

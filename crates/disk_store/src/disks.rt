@@ -1,8 +1,8 @@
 //! What a disk does, and what a crash may leave of it.
 
-ghost use Rattle.std.specs.Prelude.{◌≡◌, ℕ, ◌+◌, ◌≤◌, List, length, take, drop, IfOk, OnOk};
+ghost use Rattle.std.specs.Prelude.{◌≡◌, ℕ, ◌+◌, ◌≤◌, true, false, List, length, take, drop, Ok, IfOk, OnOk};
 ghost use Rattle.tardis_io.specs.Faults.{HasCause};
-ghost use Rattle.disk_store.specs.Disks.{longest_disk, with_bytes, Torn, Shortened, Follows, NoMore, Only, Elapses, AsHonest};
+ghost use Rattle.disk_store.specs.Disks.{longest_disk, with_bytes, Torn, Shortened, Replaced, Follows, NoMore, Only, Elapses, AsHonest};
 
 use tardis_io::Failed;
 
@@ -75,6 +75,18 @@ pub trait Disk: Drop {
         ensures durable { honest self.old → OnOk result (Only (reads self.old) (may_leave self.new)) }
         ensures reads { honest self.old → reads self.new ≡ reads self.old }
         ensures crash { honest self.old → NoMore (may_leave self.old) (may_leave self.new) }
+        ensures time { honest self.old → Elapses (moment self.old) (moment self.new) (left_since self.old) (left_since self.new) (may_leave self.new) }
+        ensures honest { AsHonest honest self.old self.new }
+        ensures cause { HasCause (faults self.old) (faults self.new) result };
+
+    /// Puts these bytes in the place of all that is there, in one step: a crash during the call leaves what it might have left before,
+    /// or these; once it answers `true` it leaves these, and nothing else. `false` means that they couldn't be put beside the others, as
+    /// where there is no room for both: then all is as before, and no fault is counted.
+    fn replace(&mut self, bytes: &[u8]) -> Result<bool, Failed>
+        requires { length bytes.now ≤ longest_disk }
+        ensures replaced { honest self.old → result ≡ Ok true → (reads self.new ≡ bytes.now) × Only bytes.now (may_leave self.new) }
+        ensures same { honest self.old → result ≡ Ok false → (reads self.new ≡ reads self.old) × NoMore (may_leave self.old) (may_leave self.new) }
+        ensures crash { honest self.old → Replaced bytes.now (may_leave self.old) (may_leave self.new) }
         ensures time { honest self.old → Elapses (moment self.old) (moment self.new) (left_since self.old) (left_since self.new) (may_leave self.new) }
         ensures honest { AsHonest honest self.old self.new }
         ensures cause { HasCause (faults self.old) (faults self.new) result };

@@ -33,6 +33,16 @@ pub trait Store {
         ensures locked { FindsHeld path.now (told self.old) (locked self.new) result }
         ensures cause { HasCause (faults self.old) (faults self.new) result };
 
+    /// The disk at a path, where there is one, for reading alone: none is made, and nothing of the one that is there
+    /// changes. Of such a disk of the system's files each call that writes or cuts fails, and `replace` answers `false`.
+    fn find_file(&mut self, path: &str) -> Result<Self::Disk, Failed>
+        ensures fresh { IfOk result (λ disk. Self.Disk.faults disk ≡ 0) }
+        ensures honest { honest self.old → IfOk result (λ disk. Self.Disk.honest disk) }
+        ensures still { honest self.old → honest self.new }
+        ensures told { Opens path.now (told self.old) (told self.new) result }
+        ensures locked { FindsHeld path.now (told self.old) (locked self.new) result }
+        ensures cause { HasCause (faults self.old) (faults self.new) result };
+
     /// Takes back a disk that this store opened, as it is, and counts a fault exactly where the disk counted one. It
     /// takes no memory.
     fn put_back(&mut self, disk: Self::Disk)
@@ -43,10 +53,10 @@ pub trait Store {
         ensures faults { faults self.new ≡ count_after (Self.Disk.faults disk) (faults self.old) }
         ensures later { faults self.old ≤ faults self.new };
 
-    /// Whether the last call of the two above was an `open_file` that was refused because somebody else holds the file: as
-    /// a disk in this process or another. Whoever holds it may let it go, so the same call may be well later. Each other
-    /// refusal (no such folder, no regular file, an error of the system) answers false, and so does a store of which
-    /// nothing was asked yet.
+    /// Whether the last call of the three above was an `open_file` or a `find_file` that was refused because somebody else
+    /// holds the file: as a disk in this process or another. Whoever holds it may let it go, so the same call may be well
+    /// later. Each other refusal (no such folder, no regular file, an error of the system) answers false, and so does a
+    /// store of which nothing was asked yet.
     fn is_locked(&self) -> bool
         ensures answer { result ≡ locked self.now }
         ensures out { result ≡ true → IsOut (told self.now) };

@@ -74,7 +74,7 @@ where
         Ok(Given { args, keys }) => {
             let mut gate = TellingGate::new(rt, SocketGate::new(rt));
             let mut dial = TellingDial::new(rt, SocketDial::new(rt));
-            let mut store = FileStore::new(rt);
+            let mut store = FileStore::new(alloc, rt);
             carry_out(
                 alloc,
                 rt,
