@@ -6,7 +6,9 @@
 mod in_memory;
 mod resting;
 mod settling;
+mod shortening;
 
 pub use in_memory::InMemory;
 pub use resting::{MAX_LASTING, Resting};
 pub use settling::Settling;
+pub use shortening::Shortening;

@@ -1,6 +1,6 @@
 //! Machines that start again from what lasted of their requests.
 
-ghost use Rattle.std.specs.Prelude.{◌≡◌, ◌+◌, ◌≤◌, ◌++◌, ℕ, List, true, false, [], vec_len, vec_capacity, Ok, IsOk, OnOk, OnErr};
+ghost use Rattle.std.specs.Prelude.{◌≡◌, ◌+◌, ◌<◌, ◌≤◌, ◌++◌, ℕ, List, true, false, [], vec_len, vec_capacity, Ok, IsOk, OnOk, OnErr};
 ghost use Rattle.tardis_base.specs.Plain.{Event, PlainMachine};
 ghost use Rattle.rest_machine.specs.Rests.{most_lasting};
 
@@ -25,6 +25,9 @@ pub trait Resting: Drop {
 
     // the first takes back all that stands in the bytes, one thing behind another, and becomes the second
     ghost takes_back: { Plain → List ℕ → Plain → Type 0 };
+
+    // the state of a machine that ended in this one and starts again
+    ghost at_rest: { Plain → Plain };
 
     /// Answers as `Machine::act` does, and puts what lasts of the request behind the bytes of `log`, in room that is there.
     fn act_lasting(
@@ -52,4 +55,21 @@ pub trait Resting: Drop {
         ensures taken { result ≡ Ok true → (s : Plain) → stands self.old s → (t : Plain) × (takes_back s bytes.now t × stands self.new t) }
         ensures refused { result ≡ Ok false → (s t : Plain) → stands self.old s → takes_back s bytes.now t → ⊥ }
         ensures opening { opening self.new ≡ opening self.old };
+
+    // a machine that opens is at rest, and takes back nothing
+    ghost opens: { (m : Self) → takes_back (opening m) [] (opening m) };
+
+    // what took something back is at rest, and takes back nothing behind it
+    ghost rests: { (s : Plain) (bytes : List ℕ) (t : Plain) → takes_back s bytes t → takes_back t [] t × (at_rest t ≡ t) };
+
+    // bytes that are taken back one after another are taken back as one
+    ghost goes_on: { (s : Plain) (bytes : List ℕ) (t : Plain) (more : List ℕ) (u : Plain) → takes_back s bytes t → takes_back t more u
+        → takes_back s (bytes ++ more) u };
+
+    // where what lasted so far leads from the opening to the machine at rest, what lasts of one more event leads on to it behind that
+    ghost lasts: { (m : Self) (bytes : List ℕ) (s : Plain) (e : Event) → stands m s → e.0 < 65536 → takes_back (opening m) bytes (at_rest s)
+        → takes_back (at_rest s) (lasting s e) (at_rest (plain.step s e)) };
+
+    // what stands for a state at rest stands at rest for each state that some machine stands for beside that one
+    ghost rest_alike: { (m n : Self) (s t : Plain) → stands m s → stands m t → stands n (at_rest t) → stands n (at_rest s) };
 }
