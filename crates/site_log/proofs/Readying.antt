@@ -13,7 +13,7 @@ use Rattle.site_log.specs.declared.opens.Ready.{Ready}
 use Rattle.site_log.specs.declared.replays.Found.{Found}
 use Rattle.site_log.specs.declared.logged.Logged.{Logged}
 use Rattle.site_log.specs.declared.resumes.LogEnd.{LogEnd}
-use Rattle.site_log.specs.Kept.{starts}
+use Rattle.site_log.specs.Kept.{TakesAll, starts}
 use Rattle.site_log.specs.Images.{HoldsBodies}
 use Rattle.site_log.specs.Files.{text_of, IsAtRest, OpenFile}
 use Rattle.site_log.specs.Resumes.{file_at}
@@ -142,14 +142,14 @@ module _ {M K : Type 0} (m : AResting M) (k : ADisk K) where
 
   -- the log goes on
   pub opened_of : (old new : M) (disk now : K) (wanted : LogFront) (ready : Ready) (bodies : List (List ℕ)) → IsReady m k old new disk now wanted ready bodies
-      → (k.honest now → k.honest disk) → (end : LogEnd)
+      → (k.honest now → k.honest disk) → m.opening new ≡ m.opening old → (end : LogEnd)
       → end ≡ record { front = ready.found.front; number = ready.found.groups; place = ready.found.bytes; room = ready.room }
-      → (log : Logged M K) → log.file ≡ file_at now end
-      → ((s : m.Plain) (bodies : List (List ℕ)) → m.stands new s → end.number ≡ length bodies
+      → (log : Logged M K) → log.file ≡ file_at now end → log.machine ≡ new
+      → ((s : m.Plain) (bodies : List (List ℕ)) → m.stands new s → TakesAll m (m.opening new) bodies s → end.number ≡ length bodies
       → (k.honest now → IsAtRest k now end.front bodies end.place end.room)
       → Stands m k log (starts s bodies) (record { moment = k.moment now; count = length bodies } ∷ []))
       → IsOpened m k old disk wanted (record { log = log; found = ready.found }) bodies
-  opened_of old new disk now wanted ready bodies r honest end is log file stands = record {
+  opened_of old new disk now wanted ready bodies r honest same end is log file machine stands = record {
     found = r.found;
     groups = r.groups;
     bytes = r.bytes;
@@ -160,9 +160,11 @@ module _ {M K : Type 0} (m : AResting M) (k : ADisk K) where
           t.0,
           (
             t.1.0,
-            subst (λ (d : K). Stands m k log (starts t.0 bodies) (record { moment = k.moment d; count = length bodies } ∷ []))
+            subst (λ (z : M). m.stands z t.0) (sym machine) t.1.1,
+            λ opens. subst (λ (d : K). Stands m k log (starts t.0 bodies) (record { moment = k.moment d; count = length bodies } ∷ []))
                 (sym (ap (λ (f : OpenFile K). f.disk) file))
-                (stands t.0 bodies t.1.1 (ap (λ (e : LogEnd). e.number) is ∙ r.groups)
+                (stands t.0 bodies t.1.1 (subst (λ (z : m.Plain). TakesAll m z bodies t.0) (opens ∙ sym same) t.1.0)
+                (ap (λ (e : LogEnd). e.number) is ∙ r.groups)
                 (λ h. subst (λ (e : LogEnd). IsAtRest k now e.front bodies e.place e.room) (sym is) (r.rest (honest h)))),
           ),
         );

@@ -13,6 +13,7 @@ use Rattle.site_log.specs.Kept.{TakesAll}
 use Rattle.site_log.specs.Files.{text_of}
 use Rattle.site_log.specs.Replays.{ending_of, Replayed, IsDamaged, IsUnfit}
 use Rattle.site_log.proofs.Appending.{all_more}
+use Rattle.site_log.proofs.Leading.{takes_more}
 
 module _ {M : Type 0} (m : AResting M) where
   -- so far
@@ -24,11 +25,6 @@ module _ {M : Type 0} (m : AResting M) where
     pub within : place ≤ length bytes
     pub few : number ≤ place
     pub taken : (s : m.Plain) → m.stands old s → (t : m.Plain) × (TakesAll m s bodies t × m.stands now t)
-
-  takes_more : (s : m.Plain) (bodies : List (List ℕ)) (body : List ℕ) (t u : m.Plain) → TakesAll m s bodies t → m.takes_back t body u
-      → TakesAll m s (bodies ++ body ∷ []) u
-  takes_more s [] body t u all one = (u, (subst (λ z. m.takes_back z body u) all one, refl))
-  takes_more s (b ∷ bodies) body t u all one = (all.0, (all.1.0, takes_more all.0 bodies body t u all.1.1 one))
 
   pub begun : (old : M) (bytes : List ℕ) (front : LogFront) (start : ℕ) → start ≡ length (text_of front []) → bytes ≡ text_of front [] ++ drop start bytes
       → start ≤ length bytes → Progress old old bytes front start 0 []
@@ -84,7 +80,7 @@ module _ {M : Type 0} (m : AResting M) where
       taken = λ s stood.
           let t = p.taken s stood in
           let u = back t.0 t.1.1 in
-          (u.0, (takes_more s bodies body t.0 u.0 t.1.0 u.1.0, u.1.1));
+          (u.0, (takes_more m s bodies body t.0 u.0 t.1.0 u.1.0, u.1.1));
     }
 
     -- the machine doesn't take back the next one

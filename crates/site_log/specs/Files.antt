@@ -2,7 +2,7 @@
 use Rattle.std.specs.Prelude.{◌≡◌, ◌⊎◌, ℕ, ◌<◌, Bool, true, List, [], ◌∷◌, ◌++◌, length}
 use Rattle.std.specs.List.{AllByRecursion}
 use Rattle.tardis_io.specs.Faults.{Rose}
-use Rattle.disk_store.specs.Disks.{Only}
+use Rattle.disk_store.specs.Disks.{NoMore, Only}
 use Rattle.disk_store.specs.declared.disks.Disk.{Ghosts as ADisk}
 use Rattle.log_text.specs.Texts.{log_text, IsZeros}
 use Rattle.log_groups.specs.declared.fronts.LogFront.{LogFront}
@@ -25,6 +25,16 @@ pub record IsAtRest {K : Type 0} (k : ADisk K) (disk : K) (front : LogFront) (bo
   pub at : place ≡ length (text_of front bodies)
   pub long : room ≡ length (k.reads disk)
 
+-- a text is the log of this front and these bodies, of which there are so many
+pub record IsLogText (text : List ℕ) (front : LogFront) (number : ℕ) (bodies : List (List ℕ)) : Type 0 where
+  pub spelled : text ≡ text_of front bodies
+  pub each : AllByRecursion IsBody bodies
+  pub count : number ≡ length bodies
+
+-- the ones or the others
+abbrev pub HoldsEither : LogFront → List (List ℕ) → List (List ℕ) → List ℕ → Type 0
+HoldsEither front bodies others image = HoldsBodies front bodies image ⊎ HoldsBodies front others image
+
 -- the bodies so far, or these and one more
 abbrev pub HoldsOneMore : LogFront → List (List ℕ) → List ℕ → List ℕ → Type 0
 HoldsOneMore front bodies body image = HoldsBodies front bodies image ⊎ HoldsBodies front (bodies ++ body ∷ []) image
@@ -43,6 +53,16 @@ pub record OpenFile (K : Type 0) : Type 0 where
 pub record IsFile {K : Type 0} (k : ADisk K) (file : OpenFile K) (bodies : List (List ℕ)) : Type 0 where
   pub rest : IsAtRest k file.disk file.front bodies file.place file.room
   pub number : file.number ≡ length bodies
+
+-- the file is the same but for its disk, of which nothing changed to a reader
+pub record IsSameFile {K : Type 0} (k : ADisk K) (old new : OpenFile K) : Type 0 where
+  pub front : new.front ≡ old.front
+  pub number : new.number ≡ old.number
+  pub place : new.place ≡ old.place
+  pub room : new.room ≡ old.room
+  pub failed : new.failed ≡ old.failed
+  pub reads : k.honest old.disk → k.reads new.disk ≡ k.reads old.disk
+  pub crash : k.honest old.disk → NoMore (k.may_leave old.disk) (k.may_leave new.disk)
 
 -- why putting a group may fail: it failed before; the disk counted a fault; or the log is too long: the next group would begin behind
 -- the last place, or has no number

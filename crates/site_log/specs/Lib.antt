@@ -10,3 +10,5 @@ pub mod Resumes
 pub mod News
 pub mod Opens
 pub mod Readies
+pub mod Drafts
+pub mod Shorter

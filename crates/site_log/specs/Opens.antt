@@ -62,12 +62,14 @@ module _ {M K : Type 0} (m : AResting M) (k : ADisk K) where
   abbrev pub IsRefused : M → K → LogFront → OpenEnd → K → Type 0
   IsRefused old disk wanted end now = k.honest disk → (end ≡ DiskFailed → ⊥) → WasRead k disk now × NotTaken m old (k.reads disk) wanted end
 
-  -- These bodies were found on a disk; the machine took them back, and goes on behind them, with all of them settled by now.
+  -- These bodies were found on a disk; the machine took them back, and where it had just opened it goes on behind them, with all of them
+  -- settled by now.
   pub record IsOpened (old : M) (disk : K) (wanted : LogFront) (opened : OpenedLog M K) (bodies : List (List ℕ)) : Type 0 where
     pub found : k.honest disk → Finds (k.reads disk) wanted opened.found bodies
     pub groups : opened.found.groups ≡ length bodies
     pub bytes : opened.found.bytes ≡ length (text_of opened.found.front bodies)
     pub front : opened.log.file.front ≡ opened.found.front
     pub runs : opened.log.file.failed ≡ false
-    pub stands : (s : m.Plain) → m.stands old s → (t : m.Plain) × (TakesAll m s bodies t
-        × Stands m k opened.log (starts t bodies) (record { moment = k.moment opened.log.file.disk; count = length bodies } ∷ []))
+    pub stands : (s : m.Plain) → m.stands old s → (t : m.Plain) × (TakesAll m s bodies t × m.stands opened.log.machine t
+        × (s ≡ m.opening old
+        → Stands m k opened.log (starts t bodies) (record { moment = k.moment opened.log.file.disk; count = length bodies } ∷ [])))

@@ -5,7 +5,7 @@ ghost use Rattle.log_groups.specs.Items.{longest_body};
 ghost use Rattle.rest_machine.specs.Rests.{most_lasting};
 
 use log_groups::MAX_BODY;
-use rest_machine::{MAX_LASTING, Resting};
+use rest_machine::{MAX_LASTING, Resting, Shortening};
 use std::alloc::Global;
 use std::marker::Model;
 use tardis_base::{NoMemory, ReplyBuf};
@@ -84,5 +84,12 @@ impl Body {
         ensures opening { M.opening machine.new ≡ M.opening machine.old }
     {
         machine.act_lasting(actor, request, out, &mut self.bytes)
+    }
+
+    /// Puts the thing of this number of a machine's plan behind the bytes.
+    pub(crate) fn put_planned<M: Shortening>(&mut self, machine: &M, plan: &M::Plan, number: usize)
+        requires { length self.old + most_lasting ≤ longest_body }
+    {
+        machine.put_planned(plan, number, &mut self.bytes);
     }
 }

@@ -1,16 +1,17 @@
 //! A log's file while it is open.
 
-ghost use Rattle.std.specs.Prelude.{◌≡◌, ◌⊎◌, ◌+◌, ◌<◌, ◌≤◌, ◌++◌, [], ◌∷◌, ℕ, List, length, true, false, OnOk, OnErr};
-ghost use Rattle.disk_store.specs.Disks.{LeavesOnly, AsHonest};
+ghost use Rattle.std.specs.Prelude.{◌≡◌, ◌⊎◌, ◌+◌, ◌<◌, ◌≤◌, ◌++◌, [], ◌∷◌, ℕ, List, length, true, false, Ok, OnOk, OnErr};
+ghost use Rattle.tardis_io.specs.Faults.{Rose};
+ghost use Rattle.disk_store.specs.Disks.{longest_disk, LeavesOnly, AsHonest};
 ghost use Rattle.log_text.specs.Texts.{entry};
 ghost use Rattle.log_groups.specs.Items.{IsBody, group};
 ghost use Rattle.site_log.specs.Sizes.{last_place};
-ghost use Rattle.site_log.specs.Files.{HoldsOneMore, IsFile, MayFail};
+ghost use Rattle.site_log.specs.Files.{HoldsOneMore, HoldsEither, IsLogText, IsFile, IsSameFile, MayFail};
 
 use crate::appends::{MAX_PLACE, put};
 use crate::texts::EntryText;
 use disk_store::{BytewiseDisk, Disk};
-use log_groups::LogFront;
+use log_groups::{LogFront, group_laws};
 use std::marker::Model;
 use tardis_io::Failed;
 
@@ -92,6 +93,56 @@ impl<K: BytewiseDisk> LogFile<K> {
                 Err(Failed)
             }
         }
+    }
+
+    /// Puts the text of a log of as many groups as `number` says in the place of this one, in one step: so a crash leaves the bodies so far, or
+    /// those of that log. `false` means that there is no room for both texts; then all is as before.
+    pub(crate) fn replace(&mut self, text: &[u8], number: u64) -> Result<bool, Failed>
+        requires few { length text.now ≤ longest_disk }
+        requires open { self.old.failed ≡ false }
+        ensures replaced { K.honest self.old.disk → result ≡ Ok true → (bodies others : List (List ℕ)) → IsFile K.Disk self.old bodies
+            → IsLogText text.now self.old.front number others → IsFile K.Disk self.new others }
+        ensures kept { K.honest self.old.disk → result ≡ Ok false → (bodies : List (List ℕ)) → IsFile K.Disk self.old bodies → IsFile K.Disk self.new bodies }
+        ensures any_moment { K.honest self.old.disk → (bodies others : List (List ℕ)) → IsFile K.Disk self.old bodies
+            → IsLogText text.now self.old.front number others
+            → LeavesOnly K.moment K.left_since self.old.disk self.new.disk (HoldsEither self.old.front bodies others) }
+        ensures ends { result ≡ Ok true → (self.new.place ≡ length text.now) × (self.new.room ≡ length text.now) }
+        ensures same { result ≡ Ok false → IsSameFile K.Disk self.old self.new }
+        ensures done { OnOk result (self.new.failed ≡ false) }
+        ensures failed { OnErr result (self.new.failed ≡ true) }
+        ensures cause { OnErr result (Rose (K.faults self.old.disk) (K.faults self.new.disk)) }
+        ensures front { self.new.front ≡ self.old.front }
+        ensures honest { AsHonest K.honest self.old.disk self.new.disk }
+        ensures later { K.faults self.old.disk ≤ K.faults self.new.disk }
+    {
+        group_laws(); // for the proof alone
+        match self.disk.replace(text) {
+            Ok(true) => {
+                self.number = number;
+                self.place = text.len() as u64;
+                self.room = text.len() as u64;
+                Ok(true)
+            }
+            Ok(false) => Ok(false),
+            Err(Failed) => {
+                self.failed = true;
+                Err(Failed)
+            }
+        }
+    }
+
+    /// What the log says first.
+    pub(crate) fn front(&self) -> &LogFront
+        ensures { result.now ≡ self.now.front }
+    {
+        &self.front
+    }
+
+    /// How long the log's text is.
+    pub(crate) fn place(&self) -> u64
+        ensures { result ≡ self.now.place }
+    {
+        self.place
     }
 
     /// Spells the next group's entry, where the log isn't too long.

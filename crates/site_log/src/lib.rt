@@ -4,6 +4,7 @@
 
 mod appends;
 mod bodies;
+mod drafts;
 mod ends;
 mod files;
 mod loads;
@@ -14,11 +15,13 @@ mod opens;
 mod reads;
 mod replays;
 mod resumes;
+mod shortens;
 mod texts;
 
 pub use ends::OpenEnd;
-pub use logged::Logged;
+pub use logged::{LONG, Logged};
 pub use opens::{FoundLog, NotOpened, OpenedLog, open_log};
 pub use reads::read_log;
 pub use replays::Found;
 pub use resumes::{LogEnd, resume};
+pub use shortens::Shortened;

@@ -15,9 +15,13 @@ use crate::files::LogFile;
 use crate::texts::EntryText;
 use disk_store::{BytewiseDisk, Disk};
 use log_groups::group_laws;
-use rest_machine::{Resting, Settling};
+use rest_machine::{Resting, Settling, Shortening};
+use std::alloc::Global;
 use tardis_base::{NoMemory, ReplyBuf};
 use tardis_io::Failed;
+
+/// How long a log's text becomes, in bytes, before it is told shorter for the first time: 16 MiB.
+pub const LONG: u64 = 16_777_216;
 
 /// A machine with the log of what lasted of its requests, on a disk. What lasted since the last group was put there waits for the
 /// next.
@@ -30,9 +34,11 @@ pub struct Logged<M: Resting, K: BytewiseDisk> {
     pub(crate) waiting: Body,
     pub(crate) text: EntryText,
     pub(crate) owed: bool,
+    pub(crate) alloc: Global,
+    pub(crate) long: u64,
 }
 
-impl<M: Resting, K: BytewiseDisk> Logged<M, K> {
+impl<M: Shortening, K: BytewiseDisk> Logged<M, K> {
     /// Answers a request of an actor into `out`, and keeps what lasts of it for the next group. Where another's might find no
     /// room behind what waits, this is put on the disk first; where that fails, a later `settle_now` fails.
     pub fn answer(&mut self, actor: u16, request: &[u8], out: &mut ReplyBuf) -> Result<(), NoMemory>
@@ -74,7 +80,8 @@ impl<M: Resting, K: BytewiseDisk> Logged<M, K> {
     }
 
     /// Puts what waits on the disk, as one group: after a crash all of it is there, or none. From the moment at which this
-    /// answers `Ok`, all that lasted so far is in every image.
+    /// answers `Ok`, all that lasted so far is in every image. Where the log has become long, it is told shorter then
+    /// (`shorten_beyond`): first beyond `LONG` bytes, and then each time once it is twice as long as it was left.
     pub fn settle_now(&mut self) -> Result<(), Failed>
         ensures settled { OnOk result ((kept : Kept M.Plain) (marks : List Mark) → Stands M.Resting K.Disk self.old kept marks
             → Stands M.Resting K.Disk self.new (with_settle kept) (record { moment = K.moment self.new.file.disk; count = length kept.things } ∷ marks)) }
@@ -89,6 +96,10 @@ impl<M: Resting, K: BytewiseDisk> Logged<M, K> {
     {
         group_laws(); // for the proof alone
         match self.flush() {
+            Ok(()) => {}
+            Err(Failed) => return Err(Failed),
+        }
+        match self.shorten_now() {
             Ok(()) => {
                 self.owed = false;
                 Ok(())
@@ -151,7 +162,7 @@ impl<M: Resting, K: BytewiseDisk> Logged<M, K> {
     }
 }
 
-impl<M: Resting, K: BytewiseDisk> Settling for Logged<M, K> {
+impl<M: Shortening, K: BytewiseDisk> Settling for Logged<M, K> {
     ghost Plain = { Kept M.Plain };
 
     ghost plain = { logged M.Resting };

@@ -20,8 +20,9 @@ use crate::mends::mend;
 use crate::reads::read_log;
 use crate::replays::Found;
 use crate::resumes::{LogEnd, Rooms, go_on};
+use crate::texts::front_text;
 use disk_store::BytewiseDisk;
-use log_groups::{LogFront, put_front};
+use log_groups::LogFront;
 use rest_machine::Resting;
 use std::alloc::Global;
 use tardis_base::NoMemory;
@@ -86,7 +87,7 @@ pub fn open_log<M: Resting, K: BytewiseDisk>(
     let mut disk = disk;
     match prepare(alloc, &mut machine, &mut disk, wanted) {
         Ok(ready) => Ok(OpenedLog {
-            log: go_on(machine, disk, ready.end(), rooms),
+            log: go_on(alloc, machine, disk, ready.end(), rooms),
             found: ready.found,
         }),
         Err(end) => Err(NotOpened { end, disk }),
@@ -189,17 +190,6 @@ fn begin<K: BytewiseDisk>(
             Err(Failed) => Err(OpenEnd::Disk),
         },
         Err(NoMemory) => Err(OpenEnd::NoMemory),
-    }
-}
-
-/// The text of a log's front.
-fn front_text(front: &LogFront, alloc: Global) -> Result<Vec<u8>, NoMemory>
-    ensures { IfOk result (λ text. text.items ≡ text_of front.now []) }
-{
-    let mut text = Vec::new(alloc);
-    match put_front(&mut text, front, alloc) {
-        Ok(()) => Ok(text),
-        Err(NoMemory) => Err(NoMemory),
     }
 }
 

@@ -1,7 +1,7 @@
 //! Going on with a log that was read.
 
 ghost use Rattle.std.specs.Prelude.{◌≡◌, [], ◌∷◌, ℕ, List, length, IfOk, IfErr};
-ghost use Rattle.site_log.specs.Kept.{starts};
+ghost use Rattle.site_log.specs.Kept.{starts, TakesAll};
 ghost use Rattle.site_log.specs.Images.{Mark};
 ghost use Rattle.site_log.specs.Files.{IsAtRest};
 ghost use Rattle.site_log.specs.Resumes.{file_at};
@@ -9,7 +9,7 @@ ghost use Rattle.site_log.specs.Stood.{Stands};
 
 use crate::bodies::Body;
 use crate::files::LogFile;
-use crate::logged::Logged;
+use crate::logged::{LONG, Logged};
 use crate::texts::EntryText;
 use disk_store::{BytewiseDisk, Disk};
 use log_groups::{LogFront, group_laws};
@@ -43,7 +43,7 @@ impl Rooms {
     }
 }
 
-/// Goes on with the log on a disk, behind its groups, with a machine that took their bodies back. The file has zeros behind the
+/// Goes on with the log on a disk, behind its groups, with a machine that opened and took their bodies back. The file has zeros behind the
 /// last group, and no write is pending. All memory that is ever needed is taken now: about 3 MiB; where there is none, the disk is
 /// handed back.
 pub fn resume<M: Resting, K: BytewiseDisk>(
@@ -53,21 +53,22 @@ pub fn resume<M: Resting, K: BytewiseDisk>(
     end: LogEnd,
 ) -> Result<Logged<M, K>, K>
     requires size { K.honest disk → end.room ≡ length (K.reads disk) }
-    ensures stands { IfOk result (λ l. (s : M.Plain) (bodies : List (List ℕ)) → M.stands machine s → end.number ≡ length bodies
+    ensures stands { IfOk result (λ l. (s : M.Plain) (bodies : List (List ℕ)) → M.stands machine s → TakesAll M.Resting (M.opening machine) bodies s → end.number ≡ length bodies
         → (K.honest disk → IsAtRest K.Disk disk end.front bodies end.place end.room)
         → Stands M.Resting K.Disk l (starts s bodies) (record { moment = K.moment disk; count = length bodies } ∷ [])) }
     ensures file { IfOk result (λ l. l.file ≡ file_at disk end) }
     ensures handed_back { IfErr result (λ back. back ≡ disk) }
-    ensures opening { IfOk result (λ l. M.opening l.machine ≡ M.opening machine) }
+    ensures machine { IfOk result (λ l. l.machine ≡ machine) }
 {
     match Rooms::new(alloc) {
-        Ok(rooms) => Ok(go_on(machine, disk, end, rooms)),
+        Ok(rooms) => Ok(go_on(alloc, machine, disk, end, rooms)),
         Err(NoMemory) => Err(disk),
     }
 }
 
 /// Goes on with a log, in room that was taken before.
 pub(crate) fn go_on<M: Resting, K: BytewiseDisk>(
+    alloc: Global,
     machine: M,
     disk: K,
     end: LogEnd,
@@ -75,11 +76,11 @@ pub(crate) fn go_on<M: Resting, K: BytewiseDisk>(
 ) -> Logged<M, K>
     requires size { K.honest disk → end.room ≡ length (K.reads disk) }
     requires none { rooms.waiting ≡ [] }
-    ensures stands { (s : M.Plain) (bodies : List (List ℕ)) → M.stands machine s → end.number ≡ length bodies
+    ensures stands { (s : M.Plain) (bodies : List (List ℕ)) → M.stands machine s → TakesAll M.Resting (M.opening machine) bodies s → end.number ≡ length bodies
         → (K.honest disk → IsAtRest K.Disk disk end.front bodies end.place end.room)
         → Stands M.Resting K.Disk result (starts s bodies) (record { moment = K.moment disk; count = length bodies } ∷ []) }
     ensures file { result.file ≡ file_at disk end }
-    ensures opening { M.opening result.machine ≡ M.opening machine }
+    ensures machine { result.machine ≡ machine }
 {
     group_laws(); // for the proof alone
     Logged {
@@ -88,5 +89,7 @@ pub(crate) fn go_on<M: Resting, K: BytewiseDisk>(
         waiting: rooms.waiting,
         text: rooms.text,
         owed: false,
+        alloc,
+        long: LONG,
     }
 }

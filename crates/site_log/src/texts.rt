@@ -1,15 +1,27 @@
-//! The text of an entry that is to be written.
+//! The text of a front, and of an entry that is to be written.
 
 ghost use Rattle.std.specs.Prelude.{◌≡◌, ◌≤◌, [], length, IfOk};
 ghost use Rattle.log_text.specs.Texts.{entry};
 ghost use Rattle.log_groups.specs.Items.{IsBody, group};
 ghost use Rattle.site_log.specs.Sizes.{longest_text};
+ghost use Rattle.site_log.specs.Files.{text_of};
 
 use crate::appends::MAX_TEXT;
-use log_groups::put_group;
+use log_groups::{LogFront, put_front, put_group};
 use std::alloc::Global;
 use std::marker::Model;
 use tardis_base::NoMemory;
+
+/// The text of a log's front.
+pub(crate) fn front_text(front: &LogFront, alloc: Global) -> Result<Vec<u8>, NoMemory>
+    ensures { IfOk result (λ text. text.items ≡ text_of front.now []) }
+{
+    let mut text = Vec::new(alloc);
+    match put_front(&mut text, front, alloc) {
+        Ok(()) => Ok(text),
+        Err(NoMemory) => Err(NoMemory),
+    }
+}
 
 /// Bytes in room for any entry, which was taken once.
 #[derive(Drop)]
