@@ -1,4 +1,5 @@
 -- How what lasts is seen, put behind a log, and taken back.
+pub mod Alike
 pub mod Counts
 pub mod Firsts
 pub mod Joined

@@ -33,6 +33,7 @@ use Rattle.rest_site.specs.Notes.{Follows}
 use Rattle.rest_site.specs.declared.oldest_codes.TheConstants.{OLDEST}
 use Rattle.rest_site.specs.Oldest.{asks_oldest}
 use Rattle.rest_site.specs.Ruled.{ruled_bytes}
+use Rattle.rest_site.specs.RestingLaws.{lives_dont_join, lives_tell_no_ceiling}
 
 -- the site follows by this, if by anything
 pub record FollowsBy (before behind : Site) (o : Option Lasting) : Type 0 where
@@ -89,24 +90,10 @@ pub on-ok : {T E : Type 0} (r : Result T E) (P Q : Type 0) → OnOk r P → (P �
 on-ok (Ok t) P Q p f = f p
 on-ok (Err e) P Q p f = p
 
--- no request is both
-pub lives-dont-join : (bytes : List ℕ) → IsTrue (is_of_lives bytes) → IsFalse (is_join bytes)
-lives-dont-join [] t = refl
-lives-dont-join (code ∷ fields) t = elim (or_cases (code == 72) (code == 73) t) [
-  | inl meet ↦ ne_eqb code 74 (λ e. let is = eqb-true code 72 meet in omega (arith, is, e))
-  | inr begin ↦ ne_eqb code 74 (λ e. let is = eqb-true code 73 begin in omega (arith, is, e))
-]
-
 -- what lasts of the site, as a thing
 same-bytes : (o : Option Lasting) → all_spelling (option_to_list o) ≡ all_spellings (option_to_list (option_map OfSite o))
 same-bytes None = refl
 same-bytes (Some l) = refl
-
--- nor is one about lives that for the oldest ceiling
-lives-tell-no-ceiling : (bytes : List ℕ) → IsTrue (is_of_lives bytes) → IsFalse (asks_oldest bytes)
-lives-tell-no-ceiling bytes t = false_from_ne_true (asks_oldest bytes) (λ asks.
-    let is : bytes ≡ OLDEST ∷ [] = (bytes_eq-Decides bytes (OLDEST ∷ [])).0 asks in
-    both_ways (is_of_lives bytes) (subst (λ (b : List ℕ). is_of_lives b ≡ false) (sym is) refl) t)
 
 -- a thing, or none, in bytes
 abbrev bytes_of : Option LastingThing → List ℕ
@@ -151,4 +138,4 @@ module _ (a : Acquainted) (event : Event) where
   lives-bytes t =
       ap bytes_of
       (sym (cond-true (is_of_lives event.1) (option_map OfLives (about_lives a event.1).1) (option_map OfSite (lasting_of_event a.site event)) t))
-      ∙ other-bytes (lives-tell-no-ceiling event.1 t) (lives-dont-join event.1 t)
+      ∙ other-bytes (lives_tell_no_ceiling event.1 t) (lives_dont_join event.1 t)

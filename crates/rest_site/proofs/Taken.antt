@@ -28,17 +28,18 @@ use Rattle.rest_laws.proofs.Fitting.{what-fits-keeps-sound}
 use Rattle.site_lives.specs.declared.lives.NewLife.{NewLife}
 use Rattle.site_lives.specs.Lives.{Lives, with_life, fits_life}
 use Rattle.site_lives.specs.Acquainted.{Acquainted}
-use Rattle.site_lives.specs.Things.{LastingThing, OfSite, OfLives, all_at_rest, with_thing, fits_thing, replay_things, all_things_fit, is_thing, thing_spelling}
+use Rattle.site_lives.specs.Things.{LastingThing, OfSite, OfLives, OfRow, all_at_rest, with_thing, fits_thing, replay_things, all_things_fit, is_thing, thing_spelling}
 use Rattle.site_lives.specs.Things.{thing_rows, thing_front, are_things, all_spellings}
 use Rattle.site_lives.specs.Bytes.{TakesBack}
 use Rattle.site_lives.proofs.Spelled.{reads-thing}
 use Rattle.session_core.specs.Core.{Core}
 use Rattle.session_core.specs.Stands.{CoreStands, StandsForSite}
 use Rattle.session_core.specs.Machine.{SiteStands}
-use Rattle.session_core.specs.Rests.{is_quiet, KeepsSound, Collects}
+use Rattle.plain_rows.specs.Rows.{with_row}
+use Rattle.session_core.specs.Rests.{is_quiet, KeepsSound, Collects, TakesRow, RowTakenBy}
 use Rattle.session_core.specs.Rests.{TakenBy as TakenThere, TakesBack as TakesBackThere}
 use Rattle.rest_site.specs.Stands.{CoreWithLives, AcquaintedStands, and_lives}
-use Rattle.rest_site.specs.Takings.{lasting_of, state_front, promise_front, collection_front, new_life_front, IsRead, TakenBy, TakesThing, Leads}
+use Rattle.rest_site.specs.Takings.{lasting_of, state_front, promise_front, collection_front, new_life_front, new_row_front, IsRead, TakenBy, TakesThing, Leads}
 use Rattle.rest_site.specs.declared.things.Thing.{Thing}
 
 -- ===== At rest
@@ -54,6 +55,8 @@ thing-still-rests a (OfSite l) rests =
     ap (λ (s : Site). record { site = s; lives = a.lives }) (still-rests a.site l (ap (λ (b : Acquainted). b.site) rests))
 thing-still-rests a (OfLives new) rests =
     ap (λ (s : Site). record { site = s; lives = with_life new.number new.life a.lives }) (ap (λ (b : Acquainted). b.site) rests)
+thing-still-rests a (OfRow n count) rests =
+    ap (λ (s : Site). record { site = with_row n count s; lives = a.lives }) (ap (λ (b : Acquainted). b.site) rests)
 
 pub none-there : {A : Type 0} (xs : List A) → length xs ≡ 0 → xs ≡ []
 none-there [] e = refl
@@ -172,6 +175,7 @@ read-shorter all left t read = go t (ap length (reads-thing.only all t left read
     go (OfSite (News (Promise c))) e = omega (arith, e, length-append (thing_spelling (OfSite (News (Promise c)))) left)
     go (OfSite (Collection n)) e = omega (arith, e, length-append (thing_spelling (OfSite (Collection n))) left)
     go (OfLives new) e = omega (arith, e, length-append (thing_spelling (OfLives new)) left)
+    go (OfRow n count) e = omega (arith, e, length-append (thing_spelling (OfRow n count)) left)
 
 -- ===== Taken by the site in memory
 
@@ -182,6 +186,16 @@ module _ (old new : Core) (lives : Lives) where
     where
       go : (a : Acquainted) → lives ≡ a.lives → (taken : Result Bool NoMemory) → TakenThere new l a.site taken →
           TakenBy (and_lives new lives) (OfSite l) a taken
+      go a same (Ok true) h = (h.0, (h.1, same))
+      go a same (Ok false) h = (h.0, record { site = a.site; stands = h.1.0; sound = h.1.1 })
+      go a same (Err fault) h = record { site = a.site; stands = h.0; sound = h.1 }
+
+  pub row-taken : (n count : ℕ) (result : Result Bool NoMemory) → TakesRow old new n count result →
+      TakesThing (and_lives old lives) (and_lives new lives) (OfRow n count) result
+  row-taken n count result took = λ a stands. go a stands.1 result (took a.site stands.0)
+    where
+      go : (a : Acquainted) → lives ≡ a.lives → (taken : Result Bool NoMemory) → RowTakenBy new n count a.site taken →
+          TakenBy (and_lives new lives) (OfRow n count) a taken
       go a same (Ok true) h = (h.0, (h.1, same))
       go a same (Ok false) h = (h.0, record { site = a.site; stands = h.1.0; sound = h.1.1 })
       go a same (Err fault) h = record { site = a.site; stands = h.0; sound = h.1 }
@@ -242,16 +256,18 @@ passed : (n : ℕ) (front : Front LastingThing) (code : ℕ) (rows : List (ℕ �
 passed n front code rows bytes other = ap (λ (b : Bool). (if b then front else front_of_code code rows) bytes) other
 
 -- a code of none of them
-pub code-far : (code : ℕ) (bytes : List ℕ) → (code ≡ 1 → ⊥) → (code ≡ 2 → ⊥) → (code ≡ 3 → ⊥) → (code ≡ 4 → ⊥) →
+pub code-far : (code : ℕ) (bytes : List ℕ) → (code ≡ 1 → ⊥) → (code ≡ 2 → ⊥) → (code ≡ 3 → ⊥) → (code ≡ 4 → ⊥) → (code ≡ 5 → ⊥) →
     front_of_code code thing_rows bytes ≡ None
-code-far code bytes one two three four =
+code-far code bytes one two three four five =
     let first : (1 == code) ≡ false = ne_eqb 1 code (λ e. one (sym e)) in
     let second : (2 == code) ≡ false = ne_eqb 2 code (λ e. two (sym e)) in
     let third : (3 == code) ≡ false = ne_eqb 3 code (λ e. three (sym e)) in
     let fourth : (4 == code) ≡ false = ne_eqb 4 code (λ e. four (sym e)) in
-    passed 1 state_front code ((2, promise_front) ∷ (3, collection_front) ∷ (4, new_life_front) ∷ []) bytes first
-    ∙ (passed 2 promise_front code ((3, collection_front) ∷ (4, new_life_front) ∷ []) bytes second
-    ∙ (passed 3 collection_front code ((4, new_life_front) ∷ []) bytes third ∙ passed 4 new_life_front code [] bytes fourth))
+    let fifth : (5 == code) ≡ false = ne_eqb 5 code (λ e. five (sym e)) in
+    passed 1 state_front code ((2, promise_front) ∷ (3, collection_front) ∷ (4, new_life_front) ∷ (5, new_row_front) ∷ []) bytes first
+    ∙ (passed 2 promise_front code ((3, collection_front) ∷ (4, new_life_front) ∷ (5, new_row_front) ∷ []) bytes second
+    ∙ (passed 3 collection_front code ((4, new_life_front) ∷ (5, new_row_front) ∷ []) bytes third
+    ∙ (passed 4 new_life_front code ((5, new_row_front) ∷ []) bytes fourth ∙ passed 5 new_row_front code [] bytes fifth)))
 
 -- the thing that was read
 pub front-of-thing : (all left : List ℕ) (thing : Thing) → IsRead (thing_front all) (Some (Ok thing)) left → thing_front all ≡ Some (lasting_of thing, left)

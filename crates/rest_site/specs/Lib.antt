@@ -6,3 +6,5 @@ pub mod Joinings
 pub mod Oldest
 pub mod Ceilings
 pub mod Ruled
+-- why the site is a machine that starts again
+pub mod RestingLaws

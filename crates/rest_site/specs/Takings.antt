@@ -8,9 +8,9 @@ use Rattle.wire_item.specs.Readings.{u32_front, record_front, consent_front}
 use Rattle.site_lives.specs.Acquainted.{Acquainted}
 use Rattle.session_core.specs.Stands.{StandsForSite}
 use Rattle.rest_site.specs.declared.things.Thing.{Thing}
-use Rattle.rest_site.specs.declared.things.Thing.TheVariants.{State, Promise, Collection, Life}
+use Rattle.rest_site.specs.declared.things.Thing.TheVariants.{State, Promise, Collection, Life, Row}
 use Rattle.rest_site.specs.Stands.{CoreWithLives, AcquaintedStands}
-use Rattle.site_lives.specs.Things.{LastingThing, OfSite, OfLives, all_at_rest, with_thing, fits_thing, life_front}
+use Rattle.site_lives.specs.Things.{LastingThing, OfSite, OfLives, OfRow, all_at_rest, with_thing, fits_thing, life_front, row_front}
 use Rattle.site_lives.specs.Bytes.{TakesBack}
 
 -- what lasted, as it is held
@@ -19,8 +19,9 @@ lasting_of (State r) = OfSite (News (RecordItem r))
 lasting_of (Promise c) = OfSite (News (PromiseItem c))
 lasting_of (Collection count) = OfSite (Collected count)
 lasting_of (Life new) = OfLives new
+lasting_of (Row n count) = OfRow n count
 
--- a record, a promise, how many states were collected, and a life, each behind its code
+-- a record, a promise, how many states were collected, a life, and a row, each behind its code
 abbrev pub state_front : Front LastingThing
 state_front = made (λ r. OfSite (News (RecordItem r))) record_front
 
@@ -32,6 +33,9 @@ collection_front = made (λ n. OfSite (Collected n)) (only_if (nat_le 1) u32_fro
 
 abbrev pub new_life_front : Front LastingThing
 new_life_front = made OfLives life_front
+
+abbrev pub new_row_front : Front LastingThing
+new_row_front = made (λ row. OfRow row.0 row.1) row_front
 
 -- what stands at the front is this thing, and these bytes are left behind it; memory may be wanting for it. None where none stands there
 abbrev pub IsRead : Option (LastingThing × List ℕ) → Option (Result Thing NoMemory) → List ℕ → Type 0

@@ -1,5 +1,6 @@
 //! A site with the lives that it knows, which joins leaves by rules and tells its oldest ceiling where it is asked to, and can end and
-//! start again: it puts what lasts of each request behind a log, and takes back what stands in one.
+//! start again: it puts what lasts of each request behind a log, and takes back what stands in one. It can be told by a shorter history
+//! than its own, and knows another site that rests as it does.
 //!
 //! The rules, and how what lasts is spelled, are stated in `docs/MODEL.md`, 'What lasts', 'Lives', 'Joins by rules' and 'The oldest ceiling'.
 #![tactic(auto)]
@@ -19,6 +20,7 @@ mod oldest;
 pub mod oldest_codes;
 mod puts;
 mod serving;
+mod shorter;
 mod takes;
 mod things;
 
@@ -35,6 +37,7 @@ pub struct RestSite {
     core: SiteCore,
     lives: Lives,
     alloc: Global,
+    keys: RandomState,
 }
 
 impl Model for RestSite {
@@ -69,6 +72,7 @@ impl RestSite {
             core,
             lives: Lives::new(),
             alloc,
+            keys,
         })
     }
 

@@ -44,6 +44,8 @@ impl Resting for RestSite {
     ghost use Rattle.rest_site.specs.Stands.{AcquaintedStands, opened_alone};
     ghost use Rattle.rest_site.specs.Ruled.{ruled_machine, ruled_bytes};
     ghost use Rattle.site_lives.specs.Bytes.{TakesBack};
+    ghost use Rattle.site_lives.specs.Things.{all_at_rest};
+    ghost use Rattle.rest_site.specs.RestingLaws.{an_opening_rests, what_was_taken_rests, more_is_taken, events_last, machines_rest_alike};
 
     ghost Plain = { Acquainted };
 
@@ -56,6 +58,8 @@ impl Resting for RestSite {
     ghost lasting = { ruled_bytes };
 
     ghost takes_back = { TakesBack };
+
+    ghost at_rest = { all_at_rest };
 
     fn act_lasting(
         &mut self,
@@ -85,4 +89,14 @@ impl Resting for RestSite {
             Ok(false)
         }
     }
+
+    ghost opens = { an_opening_rests };
+
+    ghost rests = { what_was_taken_rests };
+
+    ghost goes_on = { more_is_taken };
+
+    ghost lasts = { events_last };
+
+    ghost rest_alike = { machines_rest_alike };
 }

@@ -7,7 +7,7 @@ ghost use Rattle.session_core.specs.Machine.{opened_with};
 ghost use Rattle.session_core.specs.Rests.{is_quiet};
 ghost use Rattle.rest_site.specs.Stands.{and_lives};
 ghost use Rattle.site_lives.specs.Things.{OfSite, OfLives, is_thing, thing_front, life_front};
-ghost use Rattle.rest_site.specs.Takings.{lasting_of, state_front, promise_front, collection_front, new_life_front, IsRead, TakesThing};
+ghost use Rattle.rest_site.specs.Takings.{lasting_of, state_front, promise_front, collection_front, new_life_front, new_row_front, IsRead, TakesThing};
 ghost use Rattle.wire_item.specs.Takings.{Takes};
 
 use session_core::SiteCore;
@@ -16,13 +16,14 @@ use std::alloc::Global;
 use tardis_base::{Consent, NoMemory, Record};
 use wire_item::Reader;
 
-/// What lasted of a request.
+/// What lasted of a request, or a row of states.
 #[derive(Drop)]
 pub(crate) enum Thing {
     State(Record),
     Promise(Consent),
     Collection(u32),
     Life(NewLife),
+    Row { site: u16, count: u32 },
 }
 
 /// The thing at the front of the bytes that are left; None where none stands there.
@@ -41,6 +42,9 @@ pub(crate) fn read_thing(reader: &mut Reader<'_>, alloc: Global) -> Option<Resul
     }
     if code == 4 {
         return read_life(reader);
+    }
+    if code == 5 {
+        return read_row(reader);
     }
     None
 }
@@ -88,6 +92,19 @@ fn read_life(reader: &mut Reader<'_>) -> Option<Result<Thing, NoMemory>>
     Some(Ok(Thing::Life(new)))
 }
 
+/// A row: the number of its site, and how many states there are, which is one at least.
+fn read_row(reader: &mut Reader<'_>) -> Option<Result<Thing, NoMemory>>
+    ensures { IsRead (new_row_front reader.old) result reader.new }
+{
+    let site = reader.u16()?;
+    let count = reader.u32()?;
+    if count >= 1 {
+        Some(Ok(Thing::Row { site, count }))
+    } else {
+        None
+    }
+}
+
 /// The number of its site, and the 16 bytes.
 fn new_life(reader: &mut Reader<'_>) -> Option<NewLife>
     ensures { Takes life_front reader.old result reader.new }
@@ -120,6 +137,7 @@ pub(crate) fn take(core: &mut SiteCore, lives: &mut Lives, thing: Thing) -> Resu
         Thing::Promise(promise) => Ok(core.take_promise(&promise)),
         Thing::Collection(count) => Ok(core.collect(count) == count),
         Thing::Life(new) => Ok(take_life(core, lives, &new)),
+        Thing::Row { site, count } => core.take_row(site, count),
     }
 }
 

@@ -6,13 +6,22 @@ use Rattle.hub.specs.Doors.{DoorRules}
 use Rattle.site_lives.specs.Acquainted.{Acquainted}
 use Rattle.rest_site.specs.Ruled.{ruled_machine, ruled_bytes}
 use Rattle.rest_site.specs.Stands.{CoreWithLives, AcquaintedStands, opened_alone}
+use Rattle.site_lives.specs.Things.{all_at_rest}
 use Rattle.site_lives.specs.Bytes.{TakesBack}
 use Rattle.site_log.specs.Kept.{Kept}
 use Rattle.site_doors.specs.Rules.{site_doors}
 
 -- the site as a machine that starts again from what lasted
 abbrev pub resting : AResting CoreWithLives
-resting = record { Plain = Acquainted; plain = ruled_machine; stands = AcquaintedStands; opening = opened_alone; lasting = ruled_bytes; takes_back = TakesBack }
+resting = record {
+  Plain = Acquainted;
+  plain = ruled_machine;
+  stands = AcquaintedStands;
+  opening = opened_alone;
+  lasting = ruled_bytes;
+  takes_back = TakesBack;
+  at_rest = all_at_rest;
+}
 
 -- the same doors, before the site that is kept
 abbrev pub kept_doors : DoorRules (Kept Acquainted)

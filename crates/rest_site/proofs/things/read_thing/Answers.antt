@@ -39,8 +39,14 @@ returns-then-code-eq4 c =
     (taken u8_front c.args.reader.now c.u8.new.self c.in_ok-code.code c.in_ok-code.ensures)
     (subst (λ k. IsRead (front_of_code k thing_rows c.u8.new.self) c.read_life.result c.read_life.new.reader) (sym c.if-code-eq4.true) c.read_life.ensures)
 
+pub returns-then-code-eq5 : goal.returns-then-code-eq5
+returns-then-code-eq5 c =
+    coded c.args.reader.now c.u8.new.self c.read_row.new.reader c.in_ok-code.code c.read_row.result
+    (taken u8_front c.args.reader.now c.u8.new.self c.in_ok-code.code c.in_ok-code.ensures)
+    (subst (λ k. IsRead (front_of_code k thing_rows c.u8.new.self) c.read_row.result c.read_row.new.reader) (sym c.if-code-eq5.true) c.read_row.ensures)
+
 pub returns : goal.returns
 returns c =
     code-read thing_rows c.args.reader.now c.in_ok-code.code c.u8.new.self
     (taken u8_front c.args.reader.now c.u8.new.self c.in_ok-code.code c.in_ok-code.ensures)
-    ∙ code-far c.in_ok-code.code c.u8.new.self c.if-code-eq1.false c.if-code-eq2.false c.if-code-eq3.false c.if-code-eq4.false
+    ∙ code-far c.in_ok-code.code c.u8.new.self c.if-code-eq1.false c.if-code-eq2.false c.if-code-eq3.false c.if-code-eq4.false c.if-code-eq5.false

@@ -4,7 +4,7 @@ use Rattle.plain_site.specs.Rest.{News}
 use Rattle.site_lives.specs.Things.{is_thing}
 use Rattle.rest_site.specs.Stands.{and_lives}
 use Rattle.rest_site.specs.Takings.{lasting_of, TakesThing}
-use Rattle.rest_site.proofs.Taken.{quiet-keeps-sound, thing-taken, collection-taken}
+use Rattle.rest_site.proofs.Taken.{quiet-keeps-sound, thing-taken, row-taken, collection-taken}
 use Rattle.rest_site.proofs.things.take.Goals as goal
 
 pub take_promise-requires-clause-sound : goal.take_promise-requires-clause-sound
@@ -30,3 +30,8 @@ returns-in-Collection-clause-taken c =
     let valid = subst (λ thing. IsTrue (is_thing (lasting_of thing))) c.in-Collection.is c.requires.valid in
     subst (λ thing. TakesThing (and_lives c.args.core.now lives) (and_lives c.collect.new.self lives) (lasting_of thing) (Ok (c.collect.result == count)))
     (sym c.in-Collection.is) (collection-taken c.args.core.now c.collect.new.self lives count c.collect.result valid c.collect.ensures.collected)
+
+pub returns-in-Row-clause-taken : goal.returns-in-Row-clause-taken
+returns-in-Row-clause-taken c =
+    subst (λ thing. TakesThing (and_lives c.args.core.now c.args.lives.now) (and_lives c.take_row.new.self c.args.lives.now) (lasting_of thing) c.take_row.result)
+    (sym c.in-Row.is) (row-taken c.args.core.now c.take_row.new.self c.args.lives.now c.in-Row.site c.in-Row.count c.take_row.result c.take_row.ensures.taken)
