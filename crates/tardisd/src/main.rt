@@ -77,7 +77,7 @@ fn run(
             let life = given.life;
             let Given { args, keys, .. } = given;
             let mut doors = SocketDoors::new(rt);
-            let mut store = FileStore::new(rt);
+            let mut store = FileStore::new(alloc, rt);
             let ended = carry_out(alloc, keys, life, args, &mut doors, &mut store, &mut output);
             (ended, doors.is_told())
         }

@@ -1,5 +1,5 @@
 -- What becomes of a log that was opened, or wasn't.
-use Rattle.std.proofs.Common.{◌≡◌, true, List, [], ◌∷◌, length, ℕ, Option, Result, subst}
+use Rattle.std.proofs.Common.{◌≡◌, true, List, [], ◌∷◌, length, ℕ, Option, Result, sym, subst}
 use Rattle.tardis_io.specs.Faults.{Rose}
 use Rattle.disk_store.specs.declared.disks.Disk.{Ghosts as ADisk}
 use Rattle.command_words.specs.declared.daemons.DaemonPlan.{DaemonPlan}
@@ -7,7 +7,7 @@ use Rattle.command_words.specs.Daemons.{Daemon, daemon_of}
 use Rattle.hub.specs.declared.ports.Seen.{Seen}
 use Rattle.log_groups.specs.declared.fronts.LogFront.{LogFront}
 use Rattle.site_lives.specs.Acquainted.{Acquainted}
-use Rattle.rest_site.specs.Stands.{CoreWithLives, AcquaintedStands}
+use Rattle.rest_site.specs.Stands.{CoreWithLives, AcquaintedStands, opened_alone}
 use Rattle.site_log.specs.declared.ends.OpenEnd.{OpenEnd}
 use Rattle.site_log.specs.declared.ends.OpenEnd.TheVariants.{Disk as DiskFailed}
 use Rattle.site_log.specs.declared.opens.OpenedLog.{OpenedLog}
@@ -39,14 +39,14 @@ module _ {K : Type 0} (k : ADisk K) where
 
   pub served_from : {P : Type 0} (opens : Daemon → Result P GateFault → Type 0) (seen : P → Option (List Seen)) (plan : DaemonPlan) (end : DaemonEnd)
       (life : List ℕ) (site : CoreWithLives) (disk back : K) (front : LogFront) (it : OpenedLog CoreWithLives K)
-      → front ≡ front_at (daemon_of plan) life → AcquaintedStands site (opens_at (daemon_of plan))
+      → front ≡ front_at (daemon_of plan) life → AcquaintedStands site (opens_at (daemon_of plan)) → opened_alone site ≡ opens_at (daemon_of plan)
       → (bodies : List (List ℕ)) × IsOpened resting k site disk front it bodies
       → IsWanted it.found.front front × (it.found.is_new ≡ true → it.found.front ≡ front)
       → (k.honest disk → OpeningLeaves k disk it.log.file.disk front)
       → ((bodies : List (List ℕ)) (state : Acquainted) (marks : List Mark) → Stands resting k it.log (starts state bodies) marks
       → GoesOn opens seen k (daemon_of plan) life end it.log.file.front bodies state back)
       → ServedFrom opens seen k (daemon_of plan) life end disk back
-  served_from opens seen plan end life site disk back front it is stands opened wanted safe goes_on =
+  served_from opens seen plan end life site disk back front it is stands alone opened wanted safe goes_on =
       let of = opened.1 in
       let led = of.stands (opens_at (daemon_of plan)) stands in
       record {
@@ -61,5 +61,5 @@ module _ {K : Type 0} (k : ADisk K) where
           safe = λ h. subst (λ (f : LogFront). OpeningLeaves k disk it.log.file.disk f) is (safe h);
         };
         goes_on = subst (λ (f : LogFront). GoesOn opens seen k (daemon_of plan) life end f opened.0 led.0 back) of.front
-            (goes_on opened.0 led.0 (record { moment = k.moment it.log.file.disk; count = length opened.0 } ∷ []) led.1.1);
+            (goes_on opened.0 led.0 (record { moment = k.moment it.log.file.disk; count = length opened.0 } ∷ []) (led.1.2 (sym alone)));
       }

@@ -68,7 +68,7 @@ serves_as {D} {P} opens seen life old new asked end served =
 kept_over : {P K : Type 0} (seen : P → Option (List Seen)) (k : ADisk K) (asked : Daemon) (life : List ℕ) (end : DaemonEnd) (front : LogFront) (bodies : List (List ℕ)) (site : Acquainted)
     (back : K) (opened : Result P GateFault) → EndsKept seen k asked life end front bodies site back opened → Served end
 kept_over {P} seen k asked life end front bodies site back (Ok ports) became =
-    ⊎_elim (λ (p : (end ≡ NoMemory) × (Keeps k back front (starts site bodies) ⊎ Keeps k back front (begun site bodies life))). ends_so end NoMemory p.0 tt)
+    ⊎_elim (λ (p : (end ≡ NoMemory) × (Keeps k asked back front (starts site bodies) ⊎ Keeps k asked back front (begun site bodies life))). ends_so end NoMemory p.0 tt)
     (λ (p : (left : P) × (why : End) × ServesFile k asked life front bodies site back why (seen ports) (seen left) × (end ≡ end_by why)).
     ends_so end (end_by p.1) p.3 (served_by p.1)) became
 kept_over {P} seen k asked life end front bodies site back (Err fault) became = ends_so end (Gate fault) became.0 tt

@@ -11,12 +11,14 @@ use Rattle.hub.specs.Runs.{IsRun}
 use Rattle.log_groups.specs.declared.fronts.LogFront.{LogFront}
 use Rattle.plain_site.specs.Sound.{IsSound}
 use Rattle.site_lives.specs.Acquainted.{Acquainted}
+use Rattle.site_lives.specs.Things.{all_at_rest}
+use Rattle.site_lives.specs.Bytes.{TakesBack}
 use Rattle.rest_site.specs.Stands.{CoreWithLives, AcquaintedStands}
 use Rattle.site_log.specs.declared.ends.OpenEnd.{OpenEnd}
 use Rattle.site_log.specs.declared.ends.OpenEnd.TheVariants.{Disk as DiskFailed, NotALog, OtherVersion, BadFront, OtherSite, OtherLimits, Damaged, Unfit, NoMemory}
 use Rattle.site_log.specs.declared.opens.FoundLog.{FoundLog}
 use Rattle.site_log.specs.Kept.{Kept, IsSettled, with_settle, starts, logged, TakesAll}
-use Rattle.site_log.specs.Images.{Mark, IsSafe}
+use Rattle.site_log.specs.Images.{joined, Mark, IsSafe}
 use Rattle.site_log.specs.Reads.{IsWanted}
 use Rattle.site_log.specs.Opens.{Finds, OpeningLeaves, IsRefused as IsLogRefused}
 use Rattle.site_doors.specs.Kept.{resting, kept_doors}
@@ -70,16 +72,18 @@ module _ {K : Type 0} (k : ADisk K) where
     pub between : K
     pub safe : k.honest disk → OpeningLeaves k disk between (front_at asked life)
 
-  -- A disk keeps what lasted: there is a moment for each time that all was settled, and each image that a crash might have left from
-  -- then on holds at least what had lasted by then, in a log of this front, and nothing but what lasted, in order.
-  pub record Keeps (disk : K) (front : LogFront) (kept : Kept Acquainted) : Type 0 where
+  -- A disk keeps what lasted of a site that opened as is asked for: what lasted leads from there to the site at rest. There is a moment
+  -- for each time that all was settled, and each image that a crash might have left from then on holds, in a log of this front, what
+  -- brings at least what had lasted by then, and nothing but what lasted, in order.
+  pub record Keeps (asked : Daemon) (disk : K) (front : LogFront) (kept : Kept Acquainted) : Type 0 where
     pub sound : IsSound kept.state.site
+    pub led : TakesBack (opens_at asked) (joined kept.things) (all_at_rest kept.state)
     pub marks : List Mark
     pub counts : map (λ mark. mark.count) marks ≡ kept.settles
-    pub safe : k.honest disk → IsSafe k disk front kept.things marks
+    pub safe : k.honest disk → IsSafe resting k (opens_at asked) disk front kept.things marks
 
   -- A site that was found on a disk was served: a run of a hub from there on, once it was asked to begin this life, with the upkeep, the
   -- connections and the peers that are asked for and what the edge saw, in which nothing is told before the disk keeps it.
   abbrev pub ServesFile : Daemon → (life : List ℕ) → LogFront → List (List ℕ) → Acquainted → K → End → (before after : Option (List Seen)) → Type 0
   ServesFile asked life front bodies site back end before after =
-      IsRun kept_site (upkeep_rule asked.tidy asked.rules) (scope_of asked) (λ kept. Keeps back front kept) (begun site bodies life) end before after
+      IsRun kept_site (upkeep_rule asked.tidy asked.rules) (scope_of asked) (λ kept. Keeps asked back front kept) (begun site bodies life) end before after

@@ -28,13 +28,13 @@ module _ {P K : Type 0} (seen : P → Option (List Seen)) (k : ADisk K) (asked :
   -- The disk keeps what lasted.
   abbrev pub ServedOver : LogFront → List (List ℕ) → Acquainted → K → P → Type 0
   ServedOver front bodies site back ports =
-      ((end ≡ NoMemory) × (Keeps k back front (starts site bodies) ⊎ Keeps k back front (begun site bodies life)))
+      ((end ≡ NoMemory) × (Keeps k asked back front (starts site bodies) ⊎ Keeps k asked back front (begun site bodies life)))
       ⊎ ((left : P) × (why : End) × ServesFile k asked life front bodies site back why (seen ports) (seen left) × (end ≡ end_by why))
 
   -- what becomes of an edge that was asked to open for such a site
   abbrev pub EndsKept : LogFront → List (List ℕ) → Acquainted → K → Result P GateFault → Type 0
   EndsKept front bodies site back (Ok ports) = ServedOver front bodies site back ports
-  EndsKept front bodies site back (Err fault) = (end ≡ Gate fault) × Keeps k back front (starts site bodies)
+  EndsKept front bodies site back (Err fault) = (end ≡ Gate fault) × Keeps k asked back front (starts site bodies)
 
 module _ {P K : Type 0} (opens : Daemon → Result P GateFault → Type 0) (seen : P → Option (List Seen)) (k : ADisk K) (asked : Daemon) (life : List ℕ)
     (end : DaemonEnd) where

@@ -8,7 +8,7 @@ ghost use Rattle.command_words.specs.Places.{IsPlace};
 ghost use Rattle.log_groups.specs.Items.{IsFront};
 ghost use Rattle.log_groups.specs.declared.fronts.LogFront.{LogFront};
 ghost use Rattle.site_lives.specs.Acquainted.{Acquainted};
-ghost use Rattle.rest_site.specs.Stands.{AcquaintedStands};
+ghost use Rattle.rest_site.specs.Stands.{AcquaintedStands, opened_alone};
 ghost use Rattle.site_log.specs.Kept.{starts};
 ghost use Rattle.site_log.specs.Images.{Mark};
 ghost use Rattle.site_log.specs.Stood.{Stands};
@@ -26,14 +26,14 @@ use hub::Ports;
 use log_groups::LogFront;
 use rest_site::RestSite;
 use site_doors::AskedLog;
-use site_log::{FoundLog, Logged, NotOpened, OpenEnd, OpenedLog, open_log};
+use site_log::{FoundLog, LONG, Logged, NotOpened, OpenEnd, OpenedLog, open_log};
 use std::alloc::Global;
 use std::hash::RandomState;
 use tardis_base::NoMemory;
 use tardis_io::Failed;
 
 /// Serves the site at the plan's place, which is kept in the file at a path, over the connections at the plan's doors. The file is
-/// opened first, and the site read from it; then the edge is opened. Nobody is told of what isn't in the file yet. Where the file is
+/// opened first, and the site read from it; where it is long it is told shorter; then the edge is opened. Nobody is told of what isn't in the file yet. Where the file is
 /// new it gets this life: 16 bytes that no other file of the site has; and a site that has no life yet begins it before it is served. The
 /// cost of the start grows with the file.
 ///
@@ -73,6 +73,7 @@ fn serve_stored<D: Doors, K: BytewiseDisk, S: Store<Disk = K>>(
     requires capacity { IsCapacity plan.now.capacity }
     requires few { length plan.now.peers.items ≤ 15 }
     requires opens { AcquaintedStands site (opens_at (daemon_of plan.now)) }
+    requires alone { opened_alone site ≡ opens_at (daemon_of plan.now) }
     ensures { KeepsAs D.opens D.Ports.seen S.Store K.Disk life (daemon_of plan.now) path.now doors.old doors.new store.old store.new result }
 {
     match store.open_file(path) {
@@ -109,6 +110,7 @@ fn serve_from<D: Doors, K: BytewiseDisk>(
     requires capacity { IsCapacity plan.now.capacity }
     requires few { length plan.now.peers.items ≤ 15 }
     requires opens { AcquaintedStands site (opens_at (daemon_of plan.now)) }
+    requires alone { opened_alone site ≡ opens_at (daemon_of plan.now) }
     ensures { (IsRefused K.Disk (daemon_of plan.now) life disk result.1 result.0 × (doors.new ≡ doors.old))
         ⊎ ServedFrom D.opens D.Ports.seen K.Disk (daemon_of plan.now) life result.0 disk result.1 }
 {
@@ -125,7 +127,8 @@ fn serve_from<D: Doors, K: BytewiseDisk>(
     }
 }
 
-/// Opens the edge, and serves the site with its log over the connections that come. The disk comes back with the end.
+/// Tells the log shorter, where it is long; then opens the edge, and serves the site with its log over the connections that come. The
+/// disk comes back with the end.
 fn serve_log<D: Doors, K: BytewiseDisk>(
     alloc: Global,
     log: Logged<RestSite, K>,
@@ -136,9 +139,13 @@ fn serve_log<D: Doors, K: BytewiseDisk>(
 ) -> (DaemonEnd, K)
     requires capacity { IsCapacity plan.now.capacity }
     requires few { length plan.now.peers.items ≤ 15 }
+    requires opening { opened_alone log.machine ≡ opens_at (daemon_of plan.now) }
     ensures { (bodies : List (List ℕ)) (site : Acquainted) (marks : List Mark) → Stands resting K.Disk log (starts site bodies) marks
         → GoesOn D.opens D.Ports.seen K.Disk (daemon_of plan.now) life result.0 log.file.front bodies site result.1 }
 {
+    let mut log = log;
+    // whatever comes of it, the log goes on, unless it failed: then nothing is settled any more, and the server ends
+    let _ = log.shorten_beyond(LONG);
     match doors.open(plan) {
         Ok(ports) => {
             doors.announce(plan, Some(found));
@@ -158,6 +165,7 @@ fn serve_ports<P: Ports + Drop, K: BytewiseDisk>(
 ) -> (DaemonEnd, K)
     requires capacity { IsCapacity plan.now.capacity }
     requires few { length plan.now.peers.items ≤ 15 }
+    requires opening { opened_alone log.machine ≡ opens_at (daemon_of plan.now) }
     ensures { (bodies : List (List ℕ)) (site : Acquainted) (marks : List Mark) → Stands resting K.Disk log (starts site bodies) marks
         → ServedOver P.seen K.Disk (daemon_of plan.now) life result.0 log.file.front bodies site result.1 ports }
 {
