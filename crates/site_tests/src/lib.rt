@@ -49,7 +49,11 @@ mod of_merges;
 #[cfg(test)]
 mod of_peers;
 #[cfg(test)]
+mod of_rest_site;
+#[cfg(test)]
 mod of_session_serve;
+#[cfg(test)]
+mod of_short_logs;
 #[cfg(test)]
 mod of_site_commands;
 #[cfg(test)]
