@@ -1,18 +1,24 @@
 #!/usr/bin/env python3
 """Measures how long `tardisd --file` takes to start on its file, by how many records that has.
 
-usage: bench/start.py [--tardisd PROGRAM] [--folder FOLDER] [RECORDS ..]
+usage: bench/start.py [--tardisd PROGRAM] [--folder FOLDER] [--kept STATES] [RECORDS ..]
 
 The file is made in FOLDER, the folder that this is called in where none is named, by a server that collects and a client that commits so
-many transactions of one key of its own, of 32 bytes, each at once and the next once it was answered, since pipelining outruns the collection; it is removed. Then the server is killed and started again, three times.
-A line tells how many records there are, how many bytes their log has, the transactions a second that made it, the least seconds from
-starting a server to its line that it listens, and the most memory that it held. The client is `client.c`, which needs a C compiler
-(`cc`, or $CC)."""
+many transactions of one key of its own, of 32 bytes, each at once and the next once it was answered, since pipelining outruns the collection; it is removed.
+With --kept another client then commits so many states of 1,000 bytes, each of another key, which a session holds, so that none of them is
+collected. Then the server is killed and started again, three times.
+A line tells how many records there are, how many bytes their log has and had at most, the transactions a second that made it, the
+longest that a third client, which asks for nothing but figures, was not answered meanwhile, the most memory that the server held, and
+the least seconds from starting a server to its line that it listens, and the most memory that it held then. The client is `client.c`,
+which needs a C compiler (`cc`, or $CC)."""
 
 import argparse
 import os
+import socket as sockets
+import struct
 import subprocess
 import tempfile
+import threading
 import time
 
 from client import TOP, ask, built, ended
@@ -39,12 +45,81 @@ def most_memory(process):
         return next(1024 * int(line.split()[1]) for line in file if line.startswith("VmHWM"))
 
 
-def written(client, program, folder, socket, records):
-    """Makes a log of so many records. Tells how many were made a second."""
+class Asker:
+    """A connection that asks by turns."""
+
+    def __init__(self, socket):
+        self.socket = sockets.socket(sockets.AF_UNIX)
+        self.socket.connect(socket)
+
+    def all_of(self, count):
+        got = b""
+        while len(got) < count:
+            more = self.socket.recv(count - len(got))
+            if not more:
+                raise SystemExit("bench/start.py: the server ended a connection")
+            got += more
+        return got
+
+    def reply(self):
+        return self.all_of(struct.unpack(">I", self.all_of(4))[0])
+
+    def ask(self, *requests):
+        """The replies to these requests, which are sent at once."""
+        self.socket.sendall(b"".join(struct.pack(">I", len(it)) + it for it in requests))
+        return [self.reply() for _ in requests]
+
+
+class Watch(threading.Thread):
+    """Asks for figures again and again, and notes the longest wait and the longest file."""
+
+    def __init__(self, socket, path):
+        super().__init__()
+        self.asker, self.path, self.over = Asker(socket), path, threading.Event()
+        self.longest = self.bytes = 0
+
+    def run(self):
+        while not self.over.wait(0.002):
+            began = time.perf_counter()
+            self.asker.ask(STAT)
+            self.longest = max(self.longest, time.perf_counter() - began)
+            self.bytes = max(self.bytes, os.path.getsize(self.path))
+
+
+# Requests of docs/FORMATS.md: figures; a session that stays where it is, and one that follows its commits; a transaction at the
+# newest state, and its commit.
+STAT, OPEN, FOLLOW, BEGIN, COMMIT = b"\x10", b"\x01\x00", b"\x01\x01", b"\x02\x00", b"\x06\x01\x00\x00"
+
+
+def hold(socket, states):
+    """Commits so many states, which a session holds."""
+    holder, writer = Asker(socket), Asker(socket)
+    holder.ask(OPEN)
+    writer.ask(FOLLOW)
+    for number in range(states):
+        key = b"kept%08d" % number
+        put = b"\x04" + struct.pack(">B", len(key)) + key + struct.pack(">H", 1000) + b"v" * 1000
+        told = writer.ask(BEGIN, put, COMMIT)
+        if told[2][:1] != b"\x08":
+            raise SystemExit("bench/start.py: a commit was answered %s" % told[2].hex())
+    return holder, writer
+
+
+def written(client, program, folder, socket, records, states):
+    """Makes a log of so many records, and of so many states that are kept. Tells how many were made a second, the longest wait of
+    somebody else, the longest file, and the most memory."""
     process, _ = started(program, folder, socket, "--tidy")
+    watch = Watch(socket, os.path.join(folder, "log"))
     try:
-        return ask(client, process, ["-f", "-n", records, "tardis", "transactions", "together", "unix:" + socket])["rate"]
+        watch.start()
+        rate = ask(client, process, ["-f", "-n", records, "tardis", "transactions", "together", "unix:" + socket])["rate"]
+        # both stay connected until the server is killed
+        _sessions = hold(socket, states) if states else ()
+        watch.over.set()
+        watch.join()
+        return rate, watch.longest, watch.bytes, most_memory(process)
     finally:
+        watch.over.set()
         ended(process)
         process.stderr.close()
 
@@ -67,6 +142,7 @@ def main():
     parser = argparse.ArgumentParser(description=__doc__, formatter_class=argparse.RawDescriptionHelpFormatter)
     parser.add_argument("--tardisd", default=os.path.join(TOP, "crates", "tardisd", "out", "tardisd"))
     parser.add_argument("--folder", default=".")
+    parser.add_argument("--kept", type=int, default=0)
     parser.add_argument("records", nargs="*", type=int, default=RECORDS)
     told = parser.parse_args()
     program = os.path.abspath(told.tardisd)
@@ -74,7 +150,7 @@ def main():
         client, socket = built(short), address(short)
         for records in told.records:
             with tempfile.TemporaryDirectory(dir=os.path.abspath(told.folder)) as folder:
-                rate = written(client, program, folder, socket, records)
+                rate, wait, longest, held = written(client, program, folder, socket, records, told.kept)
                 times, memory = [], 0
                 for _ in range(RUNS):
                     process, seconds = started(program, folder, socket)
@@ -82,8 +158,10 @@ def main():
                     memory = max(memory, most_memory(process))
                     ended(process)
                     process.stderr.close()
-                print("%9d records, %11d bytes: written at %8.0f a second; a start %7.3f s, %.1f MB" % (
-                    records, length_of_text(os.path.join(folder, "log")), rate, min(times), memory / (1 << 20)), flush=True)
+                print("%9d records, %11d bytes, %11d at most: written at %8.0f a second, %6.1f ms without an answer at most, %.1f MB; "
+                      "a start %7.3f s, %.1f MB" % (
+                          records, length_of_text(os.path.join(folder, "log")), longest, rate, 1000 * wait, held / (1 << 20),
+                          min(times), memory / (1 << 20)), flush=True)
 
 
 if __name__ == "__main__":
