@@ -9,21 +9,18 @@ use Rattle.tardisd_main.proofs.files.serve_log.Goals as goal
 
 pub returns-in-Ok : goal.returns-in-Ok
 returns-in-Ok g c = λ bodies site marks stands.
-    (
+    let served = c.serve_ports.ensures bodies site marks (c.shorten_beyond.ensures.stands (starts site bodies) marks stands) in (
       Ok c.in-Ok.ports,
-      c.in-Ok.ensures.opened,
-      subst (λ (f : LogFront). ServedOver g.D.Ports.Ports.seen g.K.Disk (daemon_of c.args.plan.now) c.args.life c.serve_ports.result.0 f bodies site c.serve_ports.result.1
-      c.in-Ok.ports) c.shorten_beyond.ensures.front
-      (c.serve_ports.ensures bodies site marks (c.shorten_beyond.ensures.stands (starts site bodies) marks stands)),
+      (
+        c.in-Ok.ensures.opened,
+        subst (λ (f : LogFront). ServedOver g.D.Ports.Ports.seen g.K.Disk (daemon_of c.args.plan.now) c.args.life c.serve_ports.result.0 f bodies site c.serve_ports.result.1
+            c.in-Ok.ports) c.shorten_beyond.ensures.front served,
+      ),
     )
 
 pub returns-in-Err : goal.returns-in-Err
 returns-in-Err g c = λ bodies site marks stands.
-    (
-      Err c.in-Err.fault,
-      c.in-Err.ensures.opened,
-      refl,
-      keeps g.K.Disk (daemon_of c.args.plan.now) c.shorten_beyond.new.self c.args.log.file.front c.close.result (starts site bodies)
-          (ap opened_alone c.shorten_beyond.ensures.machine ∙ c.requires.opening) c.shorten_beyond.ensures.front c.close.ensures
-          (marks, c.shorten_beyond.ensures.stands (starts site bodies) marks stands),
-    )
+    let kept = keeps g.K.Disk (daemon_of c.args.plan.now) c.shorten_beyond.new.self c.args.log.file.front c.close.result (starts site bodies)
+    (ap opened_alone c.shorten_beyond.ensures.machine ∙ c.requires.opening) c.shorten_beyond.ensures.front c.close.ensures
+    (marks, c.shorten_beyond.ensures.stands (starts site bodies) marks stands) in
+    (Err c.in-Err.fault, (c.in-Err.ensures.opened, (refl, kept)))
