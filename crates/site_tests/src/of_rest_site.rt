@@ -25,6 +25,10 @@ const BEHIND: &str = "\
 1 040178000132   07                           put x 2 => done
 1 06010000       0800010000000501000100000004 commit ser => committed 1.5 from 1.4";
 
+/// A session opens behind both, and commits nothing yet.
+const OPENED: &str = "\
+1 0100           01000100000003               open => opened 1.3";
+
 /// What a site that opens takes back, and what it doesn't: a row; one of no state, one of a second site, and one whose last byte is
 /// wanting; a promise; a row behind it; and behind a row one of more states than there are numbers for.
 const TAKEN: [(&str, bool); 7] = [
@@ -96,10 +100,9 @@ fn a_site_rests_as_one_that_took_back_the_same(rt: HostRuntime) {
     let mut site = new_site(&rt, alloc, keys(&rt));
     assert!(rt; takes(&rt, alloc, &mut site, ROW));
     assert!(rt; takes(&rt, alloc, &mut site, FOURTH));
-    let talk = Talk::of(&rt, alloc, &[BEHIND]);
+    let talk = Talk::of(&rt, alloc, &[OPENED]);
     let mut out = ReplyBuf::new(alloc).expect(&rt, "room");
-    // a session opens, and commits nothing yet
-    assert!(rt; answers(&rt, &mut site, &talk.rows()[..3], &mut out));
+    assert!(rt; answers(&rt, &mut site, talk.rows(), &mut out));
     let mut other = site.reopened().expect(&rt, "room");
     assert!(rt; !site.rests_as(&other));
     assert!(rt; takes(&rt, alloc, &mut other, ROW));
