@@ -4,6 +4,7 @@ pub mod Rooms
 pub mod Adds
 pub mod Noted
 pub mod Listing
+pub mod Places
 pub mod Promotes
 pub mod Handed
 pub mod Chunks

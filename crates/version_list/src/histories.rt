@@ -1,6 +1,6 @@
 //! The versions of each key: one history a key.
 
-ghost use Rattle.std.specs.Prelude.{◌≡◌, ◌≤◌, ◌<◌, ◌+◌, ◌&&◌, ◌||◌, [], ◌∷◌, ◌++◌, ℕ, List, false, length, take, drop, slice_get, bytes_eq, vec_len};
+ghost use Rattle.std.specs.Prelude.{◌≡◌, ◌↔◌, ◌≤◌, ◌<◌, ◌+◌, ◌&&◌, ◌||◌, [], ◌∷◌, ◌++◌, ℕ, List, false, length, take, drop, slice_get, bytes_eq, vec_len};
 ghost use Rattle.std.specs.Prelude.{IsTrue, IfOk, IfSome, OnOk, OnErr, None, nat_le, get_or, slice_set};
 ghost use Rattle.std.specs.List.{list_any, list_all, insert, remove, IsDistinct};
 ghost use Rattle.std.specs.Option.{option_copied};
@@ -193,6 +193,9 @@ impl History {
 #[derive(Drop)]
 pub(crate) struct KeyLists {
     lists: IndexMap<Key, History, RandomState>,
+    /// Where the keys stand that were last given room, the last of them at the end, as far as there was memory to note it. A key
+    /// that doesn't stand there is looked up.
+    places: Vec<usize>,
 }
 
 impl Model for KeyLists {
@@ -210,6 +213,7 @@ impl KeyLists {
     {
         KeyLists {
             lists: IndexMap::with_hasher(alloc, keys),
+            places: Vec::new(alloc),
         }
     }
 
@@ -236,6 +240,7 @@ impl KeyLists {
         ensures kept { (k : List ℕ) → IsTrue (has_room_in self.old k) → IsTrue (has_room_in self.new k) }
     {
         let keys = self.lists.len();
+        self.places.clear();
         for (key, _) in writes.as_slice() {
             match self.make_room_for(key) {
                 Ok(()) => {},
@@ -256,12 +261,26 @@ impl KeyLists {
         ensures same { (k : List ℕ) → versions_in self.new k ≡ versions_in self.old k }
         ensures kept { (k : List ℕ) → IsTrue (has_room_in self.old k) → IsTrue (has_room_in self.new k) }
     {
-        if let Some(history) = self.lists.get_mut(key) {
-            return history.reserve();
+        if let Some(place) = self.lists.get_index_of(key) {
+            note(&mut self.places, place);
+            return self.reserve_at(key, place);
         }
+        note(&mut self.places, self.lists.len());
         let history = History::new(*self.lists.allocator())?;
         self.lists.insert(key.copy()?, history)?;
         Ok(())
+    }
+
+    /// Makes room for one more version of the key, which stands at the place.
+    fn reserve_at(&mut self, key: &Key, place: usize) -> Result<(), NoMemory>
+        requires { slice_get (keys_in self.old) place ≡ Some key.now }
+        ensures room { OnOk result (IsTrue (has_room_in self.new key.now)) }
+        ensures keys { keys_in self.new ≡ keys_in self.old }
+        ensures same { (k : List ℕ) → versions_in self.new k ≡ versions_in self.old k }
+        ensures kept { (k : List ℕ) → IsTrue (has_room_in self.old k) → IsTrue (has_room_in self.new k) }
+    {
+        let (_, history) = self.lists.pair_mut(place);
+        history.reserve()
     }
 
     /// Takes the keys from this place on, which have no versions, off the list. It takes no memory.
@@ -281,8 +300,51 @@ impl KeyLists {
         ensures others { (k : List ℕ) → bytes_eq key.now k ≡ false → listed_in self.new k ≡ listed_in self.old k }
         ensures keys { keys_in self.new ≡ keys_in self.old }
     {
-        match self.lists.get_mut(key) {
-            Some(history) => history.add(version),
+        let noted = self.places.pop();
+        let place = self.place_of_key(key, noted);
+        self.add_at(key, place, version);
+    }
+
+    /// Puts the version at the end of the list of the key, which stands at the place.
+    fn add_at(&mut self, key: &Key, place: usize, version: Version)
+        requires place { slice_get (keys_in self.old) place ≡ Some key.now }
+        requires room { IsTrue (has_room_in self.old key.now) }
+        ensures added { versions_in self.new key.now ≡ versions_in self.old key.now ++ version ∷ [] }
+        ensures others { (k : List ℕ) → bytes_eq key.now k ≡ false → listed_in self.new k ≡ listed_in self.old k }
+        ensures keys { keys_in self.new ≡ keys_in self.old }
+    {
+        let (_, history) = self.lists.pair_mut(place);
+        history.add(version);
+    }
+
+    /// Where the listed key stands: at the place that was noted, or else where a look-up finds it.
+    fn place_of_key(&self, key: &Key, noted: Option<usize>) -> usize
+        requires { IsTrue (is_key_among key.now (keys_in self.now)) }
+        ensures { slice_get (keys_in self.now) result ≡ Some key.now }
+    {
+        match noted {
+            Some(place) if self.stands_at(key, place) => place,
+            _ => self.found_at(key),
+        }
+    }
+
+    /// Whether this key stands at the place.
+    fn stands_at(&self, key: &Key, place: usize) -> bool
+        ensures { IsTrue result ↔ (slice_get (keys_in self.now) place ≡ Some key.now) }
+    {
+        match self.lists.get_index(place) {
+            Some((there, _)) => there == key,
+            None => false,
+        }
+    }
+
+    /// Where a look-up finds the listed key.
+    fn found_at(&self, key: &Key) -> usize
+        requires { IsTrue (is_key_among key.now (keys_in self.now)) }
+        ensures { slice_get (keys_in self.now) result ≡ Some key.now }
+    {
+        match self.lists.get_index_of(key) {
+            Some(place) => place,
             None => unreachable!(),
         }
     }
@@ -469,6 +531,14 @@ impl KeyLists {
             Some((key, _)) => key,
             None => unreachable!(),
         }
+    }
+}
+
+/// Notes the place, if there is memory.
+fn note(places: &mut Vec<usize>, place: usize) {
+    match places.push(place) {
+        Ok(()) => {},
+        Err(_) => {},
     }
 }
 

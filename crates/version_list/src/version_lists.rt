@@ -101,7 +101,8 @@ impl VersionList {
 
     /// Adds what the state of this slot wrote, which is read from there on. It takes no memory, and uses up the room for these keys.
     ///
-    /// The cost grows with the number of the writes, and for each with a look-up of its key.
+    /// The cost grows with the number of the writes, and for each with a comparison of its key and the one where `make_room` last
+    /// found it, or with a look-up where these differ.
     pub fn add<A: Above>(&mut self, dag: &A, slot: Slot, writer: StateId, writes: WriteSet)
         requires order { IsInOrder (A.is_kept dag.now) (A.arrival_of dag.now) self.old }
         requires room { IsTrue (has_room_for self.old writes) }
