@@ -53,7 +53,6 @@ rows-raise-counts site n count = record {
 pub record RowFits (site : Site) (n count : ℕ) : Type 0 where
   pub some : 1 ≤ n
   pub most : n ≤ site.limits.sites
-  pub states : 1 ≤ count
   pub bits : count_of_site site.dag n + count < 4294967296
   pub sessions : site.sessions ≡ []
   pub floors : IsTrue (are_unpromised_above site.dag site.floors (last_arrived site.dag))
@@ -66,9 +65,6 @@ module _ (site : Site) (n count : ℕ) where
   abbrev named : Bool
   named = is_within 1 site.limits.sites n
 
-  abbrev some : Bool
-  some = nat_le 1 count
-
   abbrev bits : Bool
   bits = nat_lt (count_of_site site.dag n + count) (2 ^ 32)
 
@@ -80,27 +76,24 @@ module _ (site : Site) (n count : ℕ) where
 
   pub fits-parts : IsTrue (fits_row site n count) → RowFits site n count
   fits-parts t =
-      let fourth = and_parts (named && some && bits && alone) free t in
-      let third = and_parts (named && some && bits) alone fourth.0 in
-      let second = and_parts (named && some) bits third.0 in
-      let first = and_parts named some second.0 in
+      let third = and_parts (named && bits && alone) free t in
+      let second = and_parts (named && bits) alone third.0 in
+      let first = and_parts named bits second.0 in
       let within = and_parts (nat_le 1 n) (nat_le n site.limits.sites) first.0 in
       record {
         some = leb-true 1 n within.0;
         most = leb-true n site.limits.sites within.1;
-        states = leb-true 1 count first.1;
-        bits = ltb-true (count_of_site site.dag n + count) (2 ^ 32) second.1;
-        sessions = none-of site.sessions third.1;
-        floors = fourth.1;
+        bits = ltb-true (count_of_site site.dag n + count) (2 ^ 32) first.1;
+        sessions = none-of site.sessions second.1;
+        floors = third.1;
       }
 
   pub fits-from : RowFits site n count → IsTrue (fits_row site n count)
   fits-from fits =
-      and_from (named && some && bits && alone) free
-      (and_from (named && some && bits) alone
-      (and_from (named && some) bits
-      (and_from named some
-      (and_from (nat_le 1 n) (nat_le n site.limits.sites) (le-leb 1 n fits.some) (le-leb n site.limits.sites fits.most)) (le-leb 1 count fits.states))
+      and_from (named && bits && alone) free
+      (and_from (named && bits) alone
+      (and_from named bits
+      (and_from (nat_le 1 n) (nat_le n site.limits.sites) (le-leb 1 n fits.some) (le-leb n site.limits.sites fits.most))
       (lt-ltb (count_of_site site.dag n + count) (2 ^ 32) fits.bits))
       (eq-eqb (length site.sessions) 0 (ap (λ (ss : Sessions). length ss) fits.sessions))) fits.floors
 
@@ -127,7 +120,7 @@ rows-leave-promises site n count may =
 
 -- ===== Rows that are joined
 
-module _ (site : Site) (n a b : ℕ) (some : 1 ≤ a) (more : 1 ≤ b) where
+module _ (site : Site) (n a b : ℕ) where
   joined-parts : IsTrue (fits_row site n (a + b)) → IsTrue (fits_row site n a && fits_row (with_row n a site) n b)
   joined-parts t =
       let fits = fits-parts site n (a + b) t in
@@ -135,12 +128,11 @@ module _ (site : Site) (n a b : ℕ) (some : 1 ≤ a) (more : 1 ≤ b) where
       let own = counts-own site.dag n a in
       and_from (fits_row site n a) (fits_row (with_row n a site) n b)
       (fits-from site n a
-      (record { some = fits.some; most = fits.most; states = some; bits = omega arith; sessions = fits.sessions; floors = fits.floors }))
+      (record { some = fits.some; most = fits.most; bits = omega arith; sessions = fits.sessions; floors = fits.floors }))
       (fits-from (with_row n a site) n b
       (record {
         some = fits.some;
         most = fits.most;
-        states = more;
         bits = omega arith;
         sessions = fits.sessions;
         floors = all-free (row_of site.dag n a) site.floors;
@@ -153,12 +145,11 @@ module _ (site : Site) (n a b : ℕ) (some : 1 ≤ a) (more : 1 ≤ b) where
       let second = (fits-parts (with_row n a site) n b both.1).bits in
       let own = counts-own site.dag n a in
       fits-from site n (a + b)
-      (record { some = first.some; most = first.most; states = omega arith; bits = omega arith; sessions = first.sessions; floors = first.floors })
+      (record { some = first.some; most = first.most; bits = omega arith; sessions = first.sessions; floors = first.floors })
 
 pub joined-rows-fit : JoinedRowsFit with_row fits_row
-joined-rows-fit site n a b some more =
-    same_test (fits_row site n (a + b)) (fits_row site n a && fits_row (with_row n a site) n b) (joined-parts site n a b some more)
-    (joined-from site n a b some more)
+joined-rows-fit site n a b =
+    same_test (fits_row site n (a + b)) (fits_row site n a && fits_row (with_row n a site) n b) (joined-parts site n a b) (joined-from site n a b)
 
 -- ===== Rows of other sites, and at a site that opens
 
@@ -172,7 +163,6 @@ module _ (site : Site) (n m a b : ℕ) (other : m ≢ n) (may : IsTrue (fits_row
       (record {
         some = fits.some;
         most = fits.most;
-        states = fits.states;
         bits = omega arith;
         sessions = fits.sessions;
         floors = (fits-parts site n a may).floors;
@@ -187,7 +177,6 @@ module _ (site : Site) (n m a b : ℕ) (other : m ≢ n) (may : IsTrue (fits_row
       (record {
         some = fits.some;
         most = fits.most;
-        states = fits.states;
         bits = omega arith;
         sessions = fits.sessions;
         floors = all-free (row_of site.dag n a) site.floors;
@@ -203,22 +192,20 @@ first-free (suc sites) = first-free sites
 
 module _ (limits : Limits) (own n count : ℕ) where
   abbrev told : Bool
-  told = is_within 1 limits.sites n && nat_le 1 count
+  told = is_within 1 limits.sites n
 
   first-parts : IsTrue (fits_row (opening limits own) n count) → IsTrue (told && nat_lt count (2 ^ 32))
   first-parts t =
       let fits = fits-parts (opening limits own) n count t in
       let bits = fits.bits in
       and_from told (nat_lt count (2 ^ 32))
-      (and_from (is_within 1 limits.sites n) (nat_le 1 count)
-      (and_from (nat_le 1 n) (nat_le n limits.sites) (le-leb 1 n fits.some) (le-leb n limits.sites fits.most)) (le-leb 1 count fits.states))
+      (and_from (nat_le 1 n) (nat_le n limits.sites) (le-leb 1 n fits.some) (le-leb n limits.sites fits.most))
       (lt-ltb count (2 ^ 32) (omega arith))
 
   first-from : IsTrue (told && nat_lt count (2 ^ 32)) → IsTrue (fits_row (opening limits own) n count)
   first-from t =
       let parts = and_parts told (nat_lt count (2 ^ 32)) t in
-      let first = and_parts (is_within 1 limits.sites n) (nat_le 1 count) parts.0 in
-      let within = and_parts (nat_le 1 n) (nat_le n limits.sites) first.0 in
+      let within = and_parts (nat_le 1 n) (nat_le n limits.sites) parts.0 in
       let some = leb-true 1 n within.0 in
       let bits = ltb-true count (2 ^ 32) parts.1 in
       let apart : (0 == n) ≡ false = false_from_ne_true (0 == n) (λ e. let zero = eqb-true 0 n e in omega arith) in
@@ -227,7 +214,6 @@ module _ (limits : Limits) (own n count : ℕ) where
       (record {
         some = some;
         most = leb-true n limits.sites within.1;
-        states = leb-true 1 count first.1;
         bits = omega arith;
         sessions = refl;
         floors = first-free limits.sites;

@@ -1,5 +1,5 @@
 -- The last state of a row takes the place of the one that had arrived last.
-use Rattle.std.proofs.Common.{◌≡◌, ◌≢◌, ℕ, List, [], ◌∷◌, ◌++◌, map, if◌then◌else◌, IsTrue, IsFalse, refl, sym, ap, subst, ◌∙◌}
+use Rattle.std.proofs.Common.{◌≡◌, ◌≢◌, ℕ, zero, suc, List, [], ◌∷◌, ◌++◌, map, if◌then◌else◌, IsTrue, IsFalse, refl, sym, ap, subst, ◌∙◌, arith}
 use Rattle.std.proofs.lemmas.Bool.{both_ways, false_from_ne_true}
 use Rattle.tardis_base.specs.declared.ids.StateId.{StateId}
 use Rattle.tardis_base.specs.Ids.{same_id}
@@ -22,7 +22,7 @@ use Rattle.plain_rows.proofs.Kept.{AllDiffer, kept-differ, replaced-last}
 use Rattle.plain_rows.proofs.OneMore.{parent-is, above-new, new-differs, read-last, kept-row, path-known, path-newest}
 use Rattle.plain_rows.proofs.Fitting.{RowFits, fits-parts}
 use Rattle.plain_rows.proofs.Joined.{one_more}
-use Rattle.plain_rows.proofs.Sound.{next, before, row-by-count}
+use Rattle.plain_rows.proofs.Sound.{next, before, row-by-row}
 
 -- what goes from one state to the next
 record Follows (a b : Site) : Type 0 where
@@ -90,9 +90,10 @@ both-follow a b c first second = record {
 }
 
 pub rows-take-the-place : RowsTakeThePlace with_row fits_row
-rows-take-the-place site n count sound may =
-    let follows = (row-by-count Follows one-follows both-follow site n count sound (fits-parts site n count may)).1 in
-    let behind = with_row n count site in
+rows-take-the-place site n zero sound some may = absurd (omega arith)
+rows-take-the-place site n (suc c) sound some may =
+    let follows = (row-by-row Follows one-follows both-follow c site n sound (fits-parts site n (suc c) may)).1 in
+    let behind = with_row n (suc c) site in
     let zs = follows.others in
     let differ = subst AllDiffer follows.kept_before (kept-differ site.dag site.collected sound.dag) in
     record {

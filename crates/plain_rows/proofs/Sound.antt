@@ -11,7 +11,7 @@ use Rattle.tardis_base.specs.declared.records.Record.{Record}
 use Rattle.tardis_base.specs.Ids.{same_id, is_among}
 use Rattle.plain_dag.specs.States.{states, is_known, children, count_of_site}
 use Rattle.plain_dag.specs.Above.{is_above, is_proper_ancestor}
-use Rattle.plain_dag.specs.Dag.{IsNext}
+use Rattle.plain_dag.specs.Dag.{IsNext, IsDag}
 use Rattle.plain_dag.specs.Begin.{last_arrived}
 use Rattle.plain_dag.specs.Entries.{entry_of}
 use Rattle.plain_dag.specs.Floors.{Floor, Sessions, is_closed, is_above_ceilings, unpromised, is_unpromised_above, are_unpromised_above}
@@ -20,9 +20,9 @@ use Rattle.plain_dag.specs.Paths.{fork_path}
 use Rattle.plain_dag.specs.Rows.{next_below}
 use Rattle.plain_dag.specs.Laws.{AreCollected}
 use Rattle.plain_dag.proofs.Ids.{same_id-true, among-cases}
-use Rattle.plain_dag.proofs.Collected.{proper-parts}
+use Rattle.plain_dag.proofs.Collected.{proper-parts, proper-above}
 use Rattle.plain_dag.proofs.Histories.{known-stays, known-cases, newest-is-known, next-is-dag}
-use Rattle.plain_dag.proofs.Order.{above-reflexive, above-transitive, ancestors-are-known}
+use Rattle.plain_dag.proofs.Order.{above-reflexive, ancestors-are-known}
 use Rattle.plain_dag.proofs.States.{children-before}
 use Rattle.plain_site.specs.Site.{Site, own_floor}
 use Rattle.plain_site.specs.Sound.{are_sound_floors, are_distinct, is_sound_session, IsSound}
@@ -55,6 +55,58 @@ closed-at rs x y proper [] = refl
 closed-at rs x y proper (f ∷ fs) =
     and_from (is_proper_ancestor rs y x) (is_closed rs (map (λ (f : Floor). unpromised x) fs) y) proper (closed-at rs x y proper fs)
 
+-- where each floor is at or above a state, what is closed is a proper ancestor of it
+proper-last : (rs : List Record) → IsDag rs → (x y : StateId) → (fs : List Floor) → 1 ≤ length fs → IsTrue (is_closed rs fs y) →
+    IsTrue (are_unpromised_above rs fs x) → IsTrue (is_proper_ancestor rs y x)
+proper-last rs dag x y [] some closed free = absurd (omega arith)
+proper-last rs dag x y (f ∷ fs) some closed free =
+    let down = and_parts (f.number == 0) (is_above rs f.state x) (and_parts (is_unpromised_above rs x f) (are_unpromised_above rs fs x) free).0 in
+    proper-above rs dag y f.state x (and_parts (is_proper_ancestor rs y f.state) (is_closed rs fs y) closed).0 down.1
+
+-- ===== No state more
+
+module _ (site : Site) (n count : ℕ) (sound : IsSound site) (fits : RowFits site n count) where
+  -- what is closed is a proper ancestor of the state that arrived last
+  pub closed-before : (y : StateId) → IsTrue (is_closed site.dag site.floors y) → IsTrue (is_proper_ancestor site.dag y (last_arrived site.dag))
+  closed-before y closed =
+      let all = sound.one_floor_each in
+      let some = fits.some in
+      let most = fits.most in
+      proper-last site.dag sound.dag (last_arrived site.dag) y site.floors (omega arith) closed fits.floors
+
+  -- so it is closed where all floors are there
+  closed-moves : (y : StateId) → IsTrue (is_closed site.dag site.floors y) → IsTrue (is_closed site.dag (with_row n 0 site).floors y)
+  closed-moves y closed = closed-at site.dag (last_arrived site.dag) y (closed-before y closed) site.floors
+
+  moved-keeps : IsSound (with_row n 0 site)
+  moved-keeps =
+      let x = last_arrived site.dag in
+      record {
+        limits = sound.limits;
+        own = sound.own;
+        dag = sound.dag;
+        of_the_sites = sound.of_the_sites;
+        few_kept = sound.few_kept;
+        short_paths = sound.short_paths;
+        few_children = sound.few_children;
+        few_sessions = sound.few_sessions;
+        session_numbers = sound.session_numbers;
+        each_session = sound.each_session;
+        txn_numbers = sound.txn_numbers;
+        each_txn = sound.each_txn;
+        one_floor_each = length-map site.floors (λ (f : Floor). unpromised x) ∙ sound.one_floor_each;
+        each_floor = floors-at site.dag x (last-known site.dag sound.dag) 1 site.floors;
+        under_floor =
+            subst (λ (ss : Sessions). IsTrue (is_above_ceilings site.dag ss (own_floor (with_row n 0 site)).state)) (sym fits.sessions) refl;
+        collected = record {
+          known = sound.collected.known;
+          closed = λ y m. closed-moves y (sound.collected.closed y m);
+          absorbed = sound.collected.absorbed;
+        };
+        collected_once = sound.collected_once;
+        waiting = sound.waiting;
+      }
+
 -- ===== One state more
 
 module _ (site : Site) (n : ℕ) (sound : IsSound site) (fits : RowFits site n 1) where
@@ -80,14 +132,6 @@ module _ (site : Site) (n : ℕ) (sound : IsSound site) (fits : RowFits site n 1
   known-last : IsTrue (is_known rs x)
   known-last = last-known rs sound.dag
 
-  -- a collected state is above each floor, and so above the state that arrived last
-  above-last : (y : StateId) → (fs : List Floor) → 1 ≤ length fs → IsTrue (is_closed rs fs y) → IsTrue (are_unpromised_above rs fs (last_arrived rs)) → IsTrue (is_above rs y x)
-  above-last y [] some closed free = absurd (omega arith)
-  above-last y (f ∷ fs) some closed free =
-      let down = and_parts (f.number == 0) (is_above rs f.state x) (and_parts (is_unpromised_above rs (last_arrived rs) f) (are_unpromised_above rs fs (last_arrived rs)) free).0 in
-      let proper = and_parts (is_proper_ancestor rs y f.state) (is_closed rs fs y) closed in
-      above-transitive rs sound.dag y f.state x (proper-parts rs y f.state proper.0).0 down.1
-
   proper-new : (y : StateId) → IsTrue (is_known rs y) → IsTrue (is_above rs y x) → IsTrue (is_proper_ancestor (r ∷ rs) y r.id)
   proper-new y known above =
       and_from (is_above (r ∷ rs) y r.id) (not (same_id y r.id)) (above-new rs r sound.dag next refl y known ∙ above)
@@ -98,10 +142,7 @@ module _ (site : Site) (n : ℕ) (sound : IsSound site) (fits : RowFits site n 1
   above-floors y m = elim (among-cases y x ks m) [
     | inl is ↦ subst (λ z. IsTrue (is_known rs z) × IsTrue (is_above rs z x)) (sym is) (known-last, above-reflexive rs x)
     | inr old ↦
-        let all = sound.one_floor_each in
-        let some = fits.some in
-        let most = fits.most in
-        (sound.collected.known y old, above-last y site.floors (omega arith) (sound.collected.closed y old) fits.floors)
+        (sound.collected.known y old, (proper-parts rs y x (closed-before site n 1 sound fits y (sound.collected.closed y old))).0)
   ]
 
   collected-stay : AreCollected (r ∷ rs) (map (λ (f : Floor). unpromised r.id) site.floors) (x ∷ ks)
@@ -173,10 +214,7 @@ module _ (site : Site) (n : ℕ) (sound : IsSound site) (fits : RowFits site n 1
   pub closed-stays : (y : StateId) → IsTrue (is_closed rs site.floors y) →
       IsTrue (is_closed (r ∷ rs) (map (λ (f : Floor). unpromised r.id) site.floors) y)
   closed-stays y closed =
-      let all = sound.one_floor_each in
-      let some = fits.some in
-      let most = fits.most in
-      let above = above-last y site.floors (omega arith) closed fits.floors in
+      let above = (proper-parts rs y x (closed-before site n 1 sound fits y closed)).0 in
       closed-at (r ∷ rs) r.id y (proper-new y (ancestors-are-known rs sound.dag y x known-last above) above) site.floors
 
   pub one-keeps : IsSound (one_more n site)
@@ -218,7 +256,6 @@ fits-behind site n c fits =
     record {
       some = fits.some;
       most = fits.most;
-      states = omega arith;
       bits = omega arith;
       sessions = fits.sessions;
       floors = all-free (row_of site.dag n (suc c)) site.floors;
@@ -228,9 +265,9 @@ fits-behind site n c fits =
 pub fits-shorter : (site : Site) (n c : ℕ) → RowFits site n (suc (suc c)) → RowFits site n (suc c)
 fits-shorter site n c fits =
     let bits = fits.bits in
-    record { some = fits.some; most = fits.most; states = omega arith; bits = omega arith; sessions = fits.sessions; floors = fits.floors }
+    record { some = fits.some; most = fits.most; bits = omega arith; sessions = fits.sessions; floors = fits.floors }
 
--- what one state more keeps, a row keeps
+-- what one state more keeps, a row keeps that has a state in it
 pub row-by-row : (P : Site → Site → Type 0) → ((site : Site) (n : ℕ) → IsSound site → RowFits site n 1 → P site (one_more n site)) →
     ((a b c : Site) → P a b → P b c → P a c) → (c : ℕ) (site : Site) (n : ℕ) → IsSound site → RowFits site n (suc c) →
     IsSound (with_row n (suc c) site) × P site (with_row n (suc c) site)
@@ -243,21 +280,16 @@ row-by-row P one both (suc c) site n sound fits =
       subst (P site) (longer site n (suc c)) (both site before (one_more n before) older.1 (one before n older.0 behind)),
     )
 
--- the same, where the row has a state in it
-pub row-by-count : (P : Site → Site → Type 0) → ((site : Site) (n : ℕ) → IsSound site → RowFits site n 1 → P site (one_more n site)) →
-    ((a b c : Site) → P a b → P b c → P a c) → (site : Site) (n count : ℕ) → IsSound site → RowFits site n count →
-    IsSound (with_row n count site) × P site (with_row n count site)
-row-by-count P one both site n zero sound fits = absurd (let some = fits.states in omega arith)
-row-by-count P one both site n (suc c) sound fits = row-by-row P one both c site n sound fits
-
 pub rows-keep-sound : RowsKeepSound with_row fits_row
-rows-keep-sound site n count sound may =
-    (row-by-count (λ a b. Unit {0}) (λ s m h f. tt) (λ a b c p q. tt) site n count sound (fits-parts site n count may)).0
+rows-keep-sound site n zero sound may = moved-keeps site n 0 sound (fits-parts site n 0 may)
+rows-keep-sound site n (suc c) sound may =
+    (row-by-row (λ a b. Unit {0}) (λ s m h f. tt) (λ a b c p q. tt) c site n sound (fits-parts site n (suc c) may)).0
 
 -- what was closed is closed
 abbrev ClosedStay : Site → Site → Type 0
 ClosedStay a b = (x : StateId) → IsTrue (is_closed a.dag a.floors x) → IsTrue (is_closed b.dag b.floors x)
 
 pub rows-keep-closed : RowsKeepClosed with_row fits_row
-rows-keep-closed site n count sound may =
-    (row-by-count ClosedStay closed-stays (λ a b c first second x h. second x (first x h)) site n count sound (fits-parts site n count may)).1
+rows-keep-closed site n zero sound may = closed-moves site n 0 sound (fits-parts site n 0 may)
+rows-keep-closed site n (suc c) sound may =
+    (row-by-row ClosedStay closed-stays (λ a b c first second x h. second x (first x h)) c site n sound (fits-parts site n (suc c) may)).1

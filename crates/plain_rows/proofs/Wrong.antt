@@ -1,7 +1,6 @@
 -- Wrong rows, and rows that arrive where they may not, break the laws; and the worked rows.
-use Rattle.std.proofs.Common.{◌≡◌, ℕ, ◌+◌, ◌≤◌, true, false, ◌&&◌, List, [], ◌∷◌, length, None, IsTrue, IsFalse, inl, inr, refl, sym, ap, subst, arith}
-use Rattle.std.specs.Prelude.{nat_le}
-use Rattle.std.proofs.lemmas.Bool.{and_from, le-leb}
+use Rattle.std.proofs.Common.{◌≡◌, ℕ, ◌+◌, ◌≤◌, true, false, List, [], ◌∷◌, length, None, IsTrue, IsFalse, inl, inr, refl, sym, ap, subst, arith}
+use Rattle.std.proofs.lemmas.Bool.{and_from}
 use Rattle.std.proofs.lemmas.Option.{none-some}
 use Rattle.tardis_base.specs.declared.ids.StateId.{StateId}
 use Rattle.tardis_base.specs.Ids.{root}
@@ -22,10 +21,11 @@ use Rattle.plain_site.proofs.SoundArrivals.{arrival-keeps}
 use Rattle.plain_site.proofs.SoundFloors.{floor-keeps}
 use Rattle.plain_rows.specs.Rows.{with_row, fits_row}
 use Rattle.plain_rows.specs.Laws.{RowsKeepSound, RowsKeepClosed, RowsLeavePromises, RowsTakeThePlace, RowsRaiseCounts, RowsChangeNoMore, RowsLeaveRest}
-use Rattle.plain_rows.specs.Laws.{RowsFitAtFirst}
+use Rattle.plain_rows.specs.Laws.{RowsFitAtFirst, EmptyRowsMoveFloors}
 use Rattle.plain_rows.specs.WrongRows.{IsBroken, leaves_floors, collects_the_last, keeps_the_old_last, forgets_promises, forgets_sessions}
 use Rattle.plain_rows.specs.WrongRows.{forgets_places, forgets_bits, takes_one, lets_none_in}
 use Rattle.plain_rows.specs.Worked.{three_sites, bare, promised_by_one, opened_by_one, forked, TwoRowsArrive, BothRowsFit, OtherRowsDont, MostStatesFit}
+use Rattle.plain_rows.specs.Worked.{EmptyRowMovesFloors}
 use Rattle.plain_rows.proofs.LastArrived.{one-unsplit}
 use Rattle.plain_rows.proofs.Fitting.{rows-raise-counts}
 
@@ -47,7 +47,7 @@ collected-last-breaks law =
 -- the root and 1.1 are kept, where the root was
 pub kept-last-breaks : IsBroken (RowsTakeThePlace keeps_the_old_last fits_row)
 kept-last-breaks law =
-    let more : ◌≡◌ {A = ℕ} 2 1 = ap length (law three_sites 1 1 three-sound refl).kept in
+    let more : ◌≡◌ {A = ℕ} 2 1 = ap length (law three_sites 1 1 three-sound (omega arith) refl).kept in
     absurd (cc)
 
 -- one state arrives where two should
@@ -89,8 +89,7 @@ forgotten-sessions-break law =
 -- there are as many states of site 1 as numbers of 32 bits, and one of these is the root's
 too-many : (count : ℕ) → count ≡ 4294967296 → RowsKeepSound with_row forgets_bits → ⊥
 too-many count all law =
-    let some : IsTrue (nat_le 1 count) = le-leb 1 count (omega arith) in
-    let sound = law three_sites 1 count three-sound (and_from (true && nat_le 1 count && true) true (and_from (true && nat_le 1 count) true some refl) refl) in
+    let sound = law three_sites 1 count three-sound refl in
     let few = count-fits (with_row 1 count three_sites).dag sound.dag 1 in
     let many = (rows-raise-counts three_sites 1 count).of_the_site in
     omega arith
@@ -155,6 +154,9 @@ forgotten-places-break law =
 pub rows-change-no-more : RowsChangeNoMore with_row
 rows-change-no-more site n count = refl
 
+pub empty-rows-move-floors : EmptyRowsMoveFloors with_row
+empty-rows-move-floors site n = refl
+
 pub rows-leave-rest : RowsLeaveRest with_row
 rows-leave-rest site n count = refl
 
@@ -169,3 +171,6 @@ other-rows-dont = refl
 
 pub most-states-fit : MostStatesFit
 most-states-fit = refl
+
+pub empty-row-moves-floors : EmptyRowMovesFloors
+empty-row-moves-floors = (refl, refl)

@@ -1,5 +1,5 @@
 -- What a row keeps of a site, as laws of what arrives as a row and of when it may.
-use Rattle.std.specs.Prelude.{◌≡◌, ◌≢◌, ℕ, Bool, ◌+◌, ◌^◌, ◌&&◌, ◌≤◌, nat_lt, nat_le, List, [], length, map, IsTrue, IsFalse, if◌then◌else◌}
+use Rattle.std.specs.Prelude.{◌≡◌, ◌≢◌, ℕ, Bool, ◌+◌, ◌^◌, ◌&&◌, ◌≤◌, nat_lt, List, [], length, map, IsTrue, IsFalse, if◌then◌else◌}
 use Rattle.tardis_base.specs.declared.ids.StateId.{StateId}
 use Rattle.tardis_base.specs.declared.records.Limits.{Limits}
 use Rattle.tardis_base.specs.Ids.{same_id}
@@ -8,7 +8,7 @@ use Rattle.plain_dag.specs.States.{is_known, arrival, children, count_of_site}
 use Rattle.plain_dag.specs.Above.{is_above}
 use Rattle.plain_dag.specs.Writers.{read}
 use Rattle.plain_dag.specs.Begin.{last_arrived}
-use Rattle.plain_dag.specs.Floors.{is_closed}
+use Rattle.plain_dag.specs.Floors.{is_closed, unpromised}
 use Rattle.plain_dag.specs.Collection.{kept_states}
 use Rattle.plain_dag.specs.Paths.{fork_path}
 use Rattle.plain_site.specs.Site.{Site, opening}
@@ -37,16 +37,16 @@ RowsJoin row = (site : Site) (n a b : ℕ) → row n b (row n a site) ≡ row n 
 
 -- and that one may arrive exactly where the one may, and then the other
 abbrev pub JoinedRowsFit : Rows → Fits → Type 0
-JoinedRowsFit row may = (site : Site) (n a b : ℕ) → 1 ≤ a → 1 ≤ b → may site n (a + b) ≡ (may site n a && may (row n a site) n b)
+JoinedRowsFit row may = (site : Site) (n a b : ℕ) → may site n (a + b) ≡ (may site n a && may (row n a site) n b)
 
 -- a row of another site may arrive exactly where it might have without the one that arrived
 abbrev pub RowsOfOthersFit : Rows → Fits → Type 0
 RowsOfOthersFit row may = (site : Site) (n m a b : ℕ) → m ≢ n → IsTrue (may site n a) → may (row n a site) m b ≡ may site m b
 
--- at a site that opens each row may arrive that is of one of the sites, has a state in it, and has numbers of 32 bits
+-- at a site that opens each row may arrive that is of one of the sites and has numbers of 32 bits
 abbrev pub RowsFitAtFirst : Fits → Type 0
 RowsFitAtFirst may = (limits : Limits) (own n count : ℕ) →
-    may (opening limits own) n count ≡ (is_within 1 limits.sites n && nat_le 1 count && nat_lt count (2 ^ 32))
+    may (opening limits own) n count ≡ (is_within 1 limits.sites n && nat_lt count (2 ^ 32))
 
 -- What is read, told and kept of the second site is as of the first, but that another state arrived last, which stands where
 -- the one that had stood. It was not known before.
@@ -71,9 +71,13 @@ pub record TakesThePlace (before behind : Site) : Type 0 where
   pub known_paths : (x : StateId) → IsTrue (is_known before.dag x) →
       fork_path behind.dag behind.collected x ≡ fork_path before.dag before.collected x
 
--- of a sound site, where the row may arrive
+-- of a sound site, where the row may arrive and has a state in it
 abbrev pub RowsTakeThePlace : Rows → Fits → Type 0
-RowsTakeThePlace row may = (site : Site) (n count : ℕ) → IsSound site → IsTrue (may site n count) → TakesThePlace site (row n count site)
+RowsTakeThePlace row may = (site : Site) (n count : ℕ) → IsSound site → 1 ≤ count → IsTrue (may site n count) → TakesThePlace site (row n count site)
+
+-- where there is no state in it the floors move, and nothing else changes
+abbrev pub EmptyRowsMoveFloors : Rows → Type 0
+EmptyRowsMoveFloors row = (site : Site) (n : ℕ) → row n 0 site ≡ record site { floors = map (λ f. unpromised (last_of site)) site.floors }
 
 -- there are so many states more, all of them of that site
 pub record CountsRise (n count : ℕ) (before behind : Site) : Type 0 where

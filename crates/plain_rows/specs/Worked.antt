@@ -56,14 +56,13 @@ forked =
       floors = unpromised (1 · 2) ∷ [];
     }
 
--- of none there is no row; nor is there one of no site, of a fourth site, of more states than numbers of 32 bits, or of one more
+-- there is no row of no site, of a fourth site, of more states than numbers of 32 bits, or of one more
 -- than those that are left; nor is there one where a floor was promised, where a session is open, or where a floor is beside the
 -- state that arrived last
 abbrev pub OtherRowsDont : Type 0
 OtherRowsDont =
     may_arrive
-    ((three_sites, 1, 0)
-    ∷ (three_sites, 0, 1)
+    ((three_sites, 0, 1)
     ∷ (three_sites, 4, 1)
     ∷ (three_sites, 1, 2 ^ 32)
     ∷ (two_arrived, 1, 2 ^ 32 - 2)
@@ -71,8 +70,18 @@ OtherRowsDont =
     ∷ (opened_by_one, 1, 1)
     ∷ (forked, 1, 1)
     ∷ [])
-    ≡ false ∷ false ∷ false ∷ false ∷ false ∷ false ∷ false ∷ false ∷ []
+    ≡ false ∷ false ∷ false ∷ false ∷ false ∷ false ∷ false ∷ []
 
 -- the most that there may be, in the first row and in a later one
 abbrev pub MostStatesFit : Type 0
 MostStatesFit = may_arrive ((three_sites, 1, 2 ^ 32 - 1) ∷ (two_arrived, 1, 2 ^ 32 - 3) ∷ []) ≡ true ∷ true ∷ []
+
+-- site 1 has made a state, and all floors are at the root still
+abbrev pub one_made : Site
+one_made = record three_sites { dag = bare (1 · 1) (0 · 0) ∷ root_record ∷ [] }
+
+-- a row of no states may arrive there, and at a site that opens; it moves the floors to that state, and that is all
+abbrev pub EmptyRowMovesFloors : Type 0
+EmptyRowMovesFloors =
+    (may_arrive ((one_made, 2, 0) ∷ (three_sites, 1, 0) ∷ []) ≡ true ∷ true ∷ [])
+    × (with_row 2 0 one_made ≡ record one_made { floors = unpromised (1 · 1) ∷ unpromised (1 · 1) ∷ unpromised (1 · 1) ∷ [] })

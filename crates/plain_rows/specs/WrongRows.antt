@@ -1,5 +1,5 @@
 -- Wrong rows, and wrong tests of when one may arrive. Each is the right one but for one thing.
-use Rattle.std.specs.Prelude.{◌==◌, ◌+◌, ◌-◌, ◌^◌, false, ◌&&◌, nat_lt, nat_le, [], ◌∷◌, length, replicate}
+use Rattle.std.specs.Prelude.{◌==◌, ◌+◌, ◌-◌, ◌^◌, false, ◌&&◌, nat_lt, [], ◌∷◌, length, replicate}
 use Rattle.std.specs.List.{list_all}
 use Rattle.tardis_base.specs.Valid.{is_within}
 use Rattle.plain_dag.specs.Floors.{are_unpromised_above}
@@ -38,23 +38,23 @@ lets_none_in site n count = false
 -- a row fits though a floor was promised
 abbrev pub forgets_promises : Fits
 forgets_promises site n count =
-    is_within 1 site.limits.sites n && nat_le 1 count && nat_lt (count_of_site site.dag n + count) (2 ^ 32)
+    is_within 1 site.limits.sites n && nat_lt (count_of_site site.dag n + count) (2 ^ 32)
     && length site.sessions == 0 && list_all (λ f. is_above site.dag f.state (last_arrived site.dag)) site.floors
 
 -- a row fits though a session is open
 abbrev pub forgets_sessions : Fits
 forgets_sessions site n count =
-    is_within 1 site.limits.sites n && nat_le 1 count && nat_lt (count_of_site site.dag n + count) (2 ^ 32)
+    is_within 1 site.limits.sites n && nat_lt (count_of_site site.dag n + count) (2 ^ 32)
     && are_unpromised_above site.dag site.floors (last_arrived site.dag)
 
 -- a row fits though a floor is beside the state that arrived last
 abbrev pub forgets_places : Fits
 forgets_places site n count =
-    is_within 1 site.limits.sites n && nat_le 1 count && nat_lt (count_of_site site.dag n + count) (2 ^ 32)
+    is_within 1 site.limits.sites n && nat_lt (count_of_site site.dag n + count) (2 ^ 32)
     && length site.sessions == 0 && list_all (λ f. f.number == 0) site.floors
 
 -- a row fits where its numbers pass 32 bits
 abbrev pub forgets_bits : Fits
 forgets_bits site n count =
-    is_within 1 site.limits.sites n && nat_le 1 count && length site.sessions == 0
+    is_within 1 site.limits.sites n && length site.sessions == 0
     && are_unpromised_above site.dag site.floors (last_arrived site.dag)

@@ -5,10 +5,10 @@
 
 ghost use Rattle.plain_rows.specs.Rows.{with_row, fits_row};
 ghost use Rattle.plain_rows.specs.Laws.{RowsKeepSound, RowsKeepClosed, RowsLeavePromises, RowsJoin, JoinedRowsFit, RowsOfOthersFit, RowsFitAtFirst};
-ghost use Rattle.plain_rows.specs.Laws.{RowsTakeThePlace, RowsRaiseCounts, RowsChangeNoMore, RowsLeaveRest};
+ghost use Rattle.plain_rows.specs.Laws.{RowsTakeThePlace, EmptyRowsMoveFloors, RowsRaiseCounts, RowsChangeNoMore, RowsLeaveRest};
 ghost use Rattle.plain_rows.specs.WrongRows.{IsBroken, leaves_floors, collects_the_last, keeps_the_old_last, forgets_promises, forgets_sessions};
 ghost use Rattle.plain_rows.specs.WrongRows.{forgets_places, forgets_bits, takes_one, lets_none_in};
-ghost use Rattle.plain_rows.specs.Worked.{TwoRowsArrive, BothRowsFit, OtherRowsDont, MostStatesFit};
+ghost use Rattle.plain_rows.specs.Worked.{TwoRowsArrive, BothRowsFit, OtherRowsDont, MostStatesFit, EmptyRowMovesFloors};
 
 /// A sound site to which a row arrives that may is sound again: its history is one, within the site's limits, and what is
 /// collected is closed and absorbed. What was closed is closed, and no promise is taken back by it, for none was made.
@@ -35,10 +35,11 @@ pub fn rows_of_one_site_join()
 {}
 
 /// The last state of a row takes the place of the one that had arrived last: each key reads there as it did there, and it has
-/// that one's fork path. All else reads as before and is kept as before. The states of the site are so many more, and nothing
-/// changes but history, collected states and floors.
+/// that one's fork path. All else reads as before and is kept as before. By a row of no states the floors move alone. The states
+/// of the site are so many more, and nothing changes but history, collected states and floors.
 pub fn the_last_of_a_row_takes_the_place()
     ensures place { RowsTakeThePlace with_row fits_row }
+    ensures empty { EmptyRowsMoveFloors with_row }
     ensures counts { RowsRaiseCounts with_row }
     ensures no_more { RowsChangeNoMore with_row }
     ensures rest { RowsLeaveRest with_row }
@@ -46,10 +47,11 @@ pub fn the_last_of_a_row_takes_the_place()
     ensures kept_last_breaks { IsBroken (RowsTakeThePlace keeps_the_old_last fits_row) }
 {}
 
-/// Worked rows at a site of three that opens: a row of two, and then one of one; and rows that may not arrive.
+/// Worked rows at a site of three that opens: a row of two, and then one of one; rows that may not arrive; and rows of no states.
 pub fn rows_arrive_as_told()
     ensures two_rows { TwoRowsArrive }
     ensures both_fit { BothRowsFit }
     ensures others { OtherRowsDont }
     ensures most { MostStatesFit }
+    ensures empty { EmptyRowMovesFloors }
 {}

@@ -1,10 +1,13 @@
 use Rattle.plain_rows.proofs.Places.{rows-take-the-place}
 use Rattle.plain_rows.proofs.Fitting.{rows-raise-counts}
-use Rattle.plain_rows.proofs.Wrong.{one-taken-breaks, rows-change-no-more, rows-leave-rest, kept-last-breaks}
+use Rattle.plain_rows.proofs.Wrong.{one-taken-breaks, empty-rows-move-floors, rows-change-no-more, rows-leave-rest, kept-last-breaks}
 use Rattle.plain_rows.proofs.the_last_of_a_row_takes_the_place.Goals as goal
 
 pub returns-clause-place : goal.returns-clause-place
 returns-clause-place c = rows-take-the-place
+
+pub returns-clause-empty : goal.returns-clause-empty
+returns-clause-empty c = empty-rows-move-floors
 
 pub returns-clause-counts : goal.returns-clause-counts
 returns-clause-counts c = rows-raise-counts
