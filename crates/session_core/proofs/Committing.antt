@@ -1,9 +1,9 @@
 -- A transaction commits.
 use Rattle.std.proofs.Common.{◌≡◌, ◌≢◌, ℕ, ◌+◌, ◌≤◌, true, false, ◌==◌, List, [], ◌∷◌, map, filter_map, length, Option, Some, None, Err, IsTrue, IsFalse}
 use Rattle.std.proofs.Common.{refl, sym, ap, ap₂, subst, ◌∙◌, arith}
-use Rattle.std.specs.Option.{option_map, option_map_or}
+use Rattle.std.specs.Option.{option_map}
 use Rattle.std.specs.Prelude.{min}
-use Rattle.std.proofs.lemmas.Option.{none-some, same_Some}
+use Rattle.std.proofs.lemmas.Option.{same_Some}
 use Rattle.std.proofs.lemmas.Bool.{and_parts, both_ways, false_from_ne_true, ne_eqb}
 use Rattle.tardis_base.specs.declared.faults.AddFault.{AddFault}
 use Rattle.tardis_base.specs.declared.faults.AddFault.TheVariants.{Full, PathFull, NoMemory as OutOfMemory}
@@ -33,7 +33,7 @@ use Rattle.end_rule.specs.declared.Branches.{Branches}
 use Rattle.end_rule.specs.Checks.{CheckedAs}
 use Rattle.merge_txn.specs.declared.Txn.{Txn as Kept}
 use Rattle.merge_txn.specs.declared.Txn.TheVariants.{Single as KeptSingle, Merge as KeptMerge}
-use Rattle.merge_txn.specs.Txns.{writes_of as kept_writes, with_writes}
+use Rattle.merge_txn.specs.Txns.{writes_of as kept_writes}
 use Rattle.session_core.specs.Txns.{IsNamed, has_slots}
 use Rattle.ceiling_book.specs.Book.{Book, known_floor, sessions_of}
 use Rattle.ceiling_book.specs.Places.{AreSlots, ArePlaced}
@@ -53,7 +53,6 @@ use Rattle.session_core.specs.Stands.{CoreStands, txn_of}
 use Rattle.session_core.specs.Gives.{IsGiven, Stops}
 use Rattle.session_core.specs.Stops.{add_stop}
 use Rattle.session_core.proofs.Answers.{skip, skip-found, stop-found, as-given}
-use Rattle.session_core.proofs.Entries.{without-changed}
 use Rattle.session_core.proofs.Standing.{txn-ended}
 use Rattle.session_core.proofs.Growing.{txn-slots-stay, txn-names-stay}
 use Rattle.session_core.proofs.Memory.{ended-held}
@@ -231,24 +230,11 @@ writes-kept : (t : Kept) → kept_writes t ≡ writes_of (txn_of t)
 writes-kept (KeptSingle t) = refl
 writes-kept (KeptMerge t) = refl
 
--- what is taken out of the session's transaction is what it has written
-pub writes-as : (core : Core) (site : Site) → CoreStands core site → (n : ℕ) (t : Txn) → entry_of n site.txns ≡ Some t → (ws : List KeyWrite) →
-    ws ≡ option_map_or kept_writes (entry_of n core.txns) [] → ws ≡ writes_of t
-writes-as core site stands n t found ws taken = taken ∙ go (entry_of n core.txns) (stands.txns n ∙ found)
-  where
-    go : (o : Option Kept) → option_map txn_of o ≡ Some t → option_map_or kept_writes o [] ≡ writes_of t
-    go None e = absurd (none-some t e)
-    go (Some h) e = writes-kept h ∙ ap writes_of (same_Some (txn_of h) t e)
-
--- the transactions as they were, once what was taken is put back
-pub put-back : (n : ℕ) (ws now : List KeyWrite) (es taken after : List (ℕ × Kept)) → changed n (with_writes ws) taken ≡ es → now ≡ ws →
-    after ≡ changed n (with_writes now) taken → after ≡ es
-put-back n ws now es taken after back left put = put ∙ ap (λ (vs : List KeyWrite). changed n (with_writes vs) taken) left ∙ back
-
--- the transaction ends after what it wrote was taken
-pub ended-taken : (n : ℕ) (f : Kept → Kept) (es taken after : List (ℕ × Kept)) → taken ≡ changed n f es → after ≡ without_entry n taken →
-    after ≡ without_entry n es
-ended-taken n f es taken after left ended = ended ∙ ap (without_entry n) left ∙ without-changed n f es
+-- what is kept of the session's transaction has written what the transaction has
+pub writes-as : (core : Core) (site : Site) → CoreStands core site → (n : ℕ) (t : Txn) → entry_of n site.txns ≡ Some t → (h : Kept) →
+    entry_of n core.txns ≡ Some h → kept_writes h ≡ writes_of t
+writes-as core site stands n t found h there =
+    writes-kept h ∙ ap writes_of (same_Some (txn_of h) t (sym (ap (option_map txn_of) there) ∙ stands.txns n ∙ found))
 
 -- ===== Commit, row by row
 

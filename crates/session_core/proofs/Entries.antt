@@ -6,11 +6,11 @@ use Rattle.std.specs.Map.{lookup, remove_entry, set_value, keys_of}
 use Rattle.std.specs.BTreeMap.{insert_entry, is_at}
 use Rattle.std.specs.List.Sorted.{IsStrictlySortedBy}
 use Rattle.std.specs.Prelude.{◌==◌}
-use Rattle.std.proofs.lemmas.Bool.{cases_Bool, cond-true, cond-false}
+use Rattle.std.proofs.lemmas.Bool.{cases_Bool, cond-true}
 use Rattle.std.proofs.lemmas.Option.{none-some, same_Some}
 use Rattle.std.proofs.lemmas.Map.Keys.{IsDistinct-from_sorted}
 use Rattle.plain_dag.specs.Entries.{entry_of, with_entry, changed, without_entry}
-use Rattle.plain_site.proofs.SoundEntries.{entry-here, entry-later, changed-here, changed-later, entry-changed, entry-changed_other, entry-with_entry}
+use Rattle.plain_site.proofs.SoundEntries.{entry-here, entry-later, entry-changed, entry-changed_other, entry-with_entry}
 use Rattle.plain_site.proofs.SoundEntries.{entry-with_entry_other, entry-without_entry, entry-without_entry_other}
 use Rattle.plain_site.proofs.SoundBooks.{at-each}
 use Rattle.ceiling_book.proofs.Entries.{mapped, inserted, removed, written}
@@ -36,49 +36,17 @@ module _ {A : Type 0} where
       ∙ written (λ (b : A). b) n g es v (g v) (IsDistinct-from_sorted nat_cmp (keys_of es) ordered) found refl
       ∙ ap (changed n g) (mapped-same es)
 
-  -- ===== A change
+  -- ===== No such entry
 
-  -- it may be in two steps
-  pub changed-twice : (n : ℕ) (f g : A → A) (es : List (ℕ × A)) → changed n f (changed n g es) ≡ changed n (λ (a : A). f (g a)) es
-  changed-twice n f g [] = refl
-  changed-twice n f g (e ∷ es) =
-      let h : A → A = λ (a : A). f (g a) in
-      let later = changed-twice n f g es in
-      elim (cases_Bool (n == e.0)) [
-        | inl t ↦
-            ap (changed n f) (changed-here n g e es t) ∙ changed-here n f (e.0, g e.1) (changed n g es) t
-            ∙ ap (λ (ds : List (ℕ × A)). (e.0, h e.1) ∷ ds) later ∙ sym (changed-here n h e es t)
-        | inr o ↦
-            ap (changed n f) (changed-later n g e es o) ∙ changed-later n f e (changed n g es) o ∙ ap (λ (ds : List (ℕ × A)). e ∷ ds) later
-            ∙ sym (changed-later n h e es o)
-      ]
-
-  -- where there is no such entry, all is as before
-  pub changed-none : (n : ℕ) (f : A → A) (es : List (ℕ × A)) → ◌≡◌ {A = Option A} (entry_of n es) None → changed n f es ≡ es
-  changed-none n f [] none = refl
-  changed-none n f (e ∷ es) none = elim (cases_Bool (n == e.0)) [
+  -- where there is no such entry, none is taken away
+  pub without-none : (n : ℕ) (es : List (ℕ × A)) → ◌≡◌ {A = Option A} (entry_of n es) None → es ≡ without_entry n es
+  without-none n [] none = refl
+  without-none n (e ∷ es) none = elim (cases_Bool (n == e.0)) [
     | inl t ↦ absurd (none-some e.1 (sym none ∙ entry-here n e es t))
-    | inr o ↦ changed-later n f e es o ∙ ap (λ (ds : List (ℕ × A)). e ∷ ds) (changed-none n f es (sym (entry-later n e es o) ∙ none))
+    | inr o ↦
+        ap (λ (ds : List (ℕ × A)). e ∷ ds) (without-none n es (sym (entry-later n e es o) ∙ none))
+        ∙ sym (cond-true (not (n == e.0)) (e ∷ without_entry n es) (without_entry n es) (ap not o))
   ]
-
-  -- what is taken away may have been changed before
-  pub without-changed : (n : ℕ) (f : A → A) (es : List (ℕ × A)) → without_entry n (changed n f es) ≡ without_entry n es
-  without-changed n f [] = refl
-  without-changed n f (e ∷ es) =
-      let later = without-changed n f es in
-      elim (cases_Bool (n == e.0)) [
-        | inl t ↦
-            let d : ℕ × A = (e.0, f e.1) in
-            ap (without_entry n) (changed-here n f e es t)
-            ∙ cond-false (not (n == e.0)) (d ∷ without_entry n (changed n f es)) (without_entry n (changed n f es)) (ap not t)
-            ∙ later
-            ∙ sym (cond-false (not (n == e.0)) (e ∷ without_entry n es) (without_entry n es) (ap not t))
-        | inr o ↦
-            ap (without_entry n) (changed-later n f e es o)
-            ∙ cond-true (not (n == e.0)) (e ∷ without_entry n (changed n f es)) (without_entry n (changed n f es)) (ap not o)
-            ∙ ap (λ (ds : List (ℕ × A)). e ∷ ds) later
-            ∙ sym (cond-true (not (n == e.0)) (e ∷ without_entry n es) (without_entry n es) (ap not o))
-      ]
 
   -- ===== What holds of each
 

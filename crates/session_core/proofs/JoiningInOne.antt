@@ -1,10 +1,9 @@
 -- A merge in one step.
-use Rattle.std.proofs.Common.{◌≡◌, ℕ, Bool, true, false, not, ◌==◌, List, [], ◌∷◌, map, Option, Some, None, Result, Ok, Err, IsTrue, inl, inr, refl, sym, ap, ap₂, subst}
-use Rattle.std.proofs.Common.{◌∙◌, IfOk, arith}
+use Rattle.std.proofs.Common.{◌≡◌, ℕ, Bool, true, false, ◌==◌, List, [], ◌∷◌, map, Option, Some, None, Result, Ok, Err, IsTrue, refl, sym, ap, ap₂, subst}
+use Rattle.std.proofs.Common.{IfOk, arith}
 use Rattle.std.specs.Prelude.{◌&&◌}
 use Rattle.std.specs.List.{list_all}
-use Rattle.std.proofs.lemmas.Bool.{and_parts, cases_Bool, cond_both, cond-true, eqb-false, not_from_false}
-use Rattle.std.proofs.lemmas.Option.{none-some}
+use Rattle.std.proofs.lemmas.Bool.{and_parts, cond_both, eqb-false}
 use Rattle.tardis_base.specs.declared.faults.NoMemory.{NoMemory as OutOfMemory}
 use Rattle.tardis_base.specs.declared.ids.StateId.{StateId}
 use Rattle.tardis_base.specs.declared.ids.Slot.{Slot}
@@ -31,7 +30,7 @@ use Rattle.plain_site.proofs.SoundAnswers.{when-none, found-none, none-parts, un
 use Rattle.plain_site.proofs.SoundArrivals.{arrival-keeps}
 use Rattle.plain_site.proofs.SoundBooks.{each-without_txn, each-session_changed, book-keeps, session-parts, session-from, own-is_site}
 use Rattle.plain_site.proofs.SoundCommits.{MayJoin, own-next, conflicts-written}
-use Rattle.plain_site.proofs.SoundEntries.{changed-all, changed-length, changed-ascends, without_entry-ascends, entry-without_entry, entry-here, entry-later}
+use Rattle.plain_site.proofs.SoundEntries.{changed-all, changed-length, changed-ascends, without_entry-ascends, entry-without_entry}
 use Rattle.session_core.specs.Core.{Core}
 use Rattle.session_core.specs.Guards.{RefusesBegins}
 use Rattle.session_core.specs.Gives.{Gives, GivesOrStops, IsGiven, ToldAs}
@@ -41,18 +40,6 @@ use Rattle.session_core.specs.Stands.{CoreStands, StandsForSite}
 use Rattle.session_core.specs.declared.stops.Stop.{Stop}
 use Rattle.session_core.specs.declared.stops.Stop.TheVariants.{Refused, NoMemory}
 use Rattle.session_core.proofs.Settings.{HasSettingsOf, opened-same}
-
--- ===== Entries
-
--- where there is no such entry, none is taken away
-pub without-none : {A : Type 0} (n : ℕ) (es : List (ℕ × A)) → ◌≡◌ {A = Option A} (entry_of n es) None → es ≡ without_entry n es
-without-none {A} n [] none = refl
-without-none {A} n (e ∷ es) none = elim (cases_Bool (n == e.0)) [
-  | inl t ↦ absurd (none-some e.1 (sym none ∙ entry-here n e es t))
-  | inr o ↦
-      ap (λ (ds : List (ℕ × A)). e ∷ ds) (without-none n es (sym (entry-later n e es o) ∙ none))
-      ∙ sym (cond-true (not (n == e.0)) (e ∷ without_entry n es) (without_entry n es) (not_from_false (n == e.0) o))
-]
 
 -- the slots of the table have names
 pub record HaveNames (table : Table) (slots : List Slot) : Type 0 where

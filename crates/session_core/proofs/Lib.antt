@@ -1,5 +1,6 @@
 -- Lemmas on the site in memory.
 pub mod Entries
+pub mod Places
 pub mod Written
 pub mod Answers
 pub mod Standing

@@ -38,6 +38,7 @@ use Rattle.ceiling_book.proofs.Entries.{mapped}
 use Rattle.merge_txn.specs.declared.Txn.{Txn as Kept}
 use Rattle.merge_txn.specs.declared.Txn.TheVariants.{Single, Merge}
 use Rattle.plain_site.specs.Site.{Site}
+use Rattle.plain_site.proofs.SoundHistories.{count-fits}
 use Rattle.plain_rows.specs.Rows.{row_of, with_row, fits_row}
 use Rattle.plain_rows.proofs.Fitting.{counts-own, RowFits, fits-parts, fits-from}
 use Rattle.plain_rows.proofs.Sound.{rows-keep-sound}
@@ -82,7 +83,7 @@ none-kept : (ss : List (ℕ × OpenSession)) → mapped session_of ss ≡ [] →
 none-kept [] e = refl
 none-kept (s ∷ ss) e = (cc)
 
--- nothing is wrong with a row that fits
+-- nothing is wrong with a row that fits and has a state in it
 unfaulted : (table : Table) (n count : ℕ) → 1 ≤ n → n ≤ table.limits.sites → 1 ≤ count → count_at table n + count < 4294967296 →
     ◌≡◌ {A = Option RowFault} (row_fault table n count) None
 unfaulted table n count some most states bits =
@@ -109,14 +110,14 @@ module _ (core : Core) (site : Site) (n count : ℕ) (both : SiteStands core sit
   sites-are : table.limits.sites ≡ site.limits.sites
   sites-are = ap (λ (l : Limits). l.sites) both.0.limits
 
-  fit-unfaulted : RowFits site n count → ◌≡◌ {A = Option RowFault} (row_fault table n count) None
-  fit-unfaulted fits =
+  fit-unfaulted : RowFits site n count → 1 ≤ count → ◌≡◌ {A = Option RowFault} (row_fault table n count) None
+  fit-unfaulted fits some =
       let sites = sites-are in
       let most = fits.most in
       let within : n ≤ table.limits.sites = omega arith in
       let number = count-is table site.dag site.collected both.0.store.table n fits.some within in
       let few = fits.bits in
-      unfaulted table n count fits.some within fits.states (omega arith)
+      unfaulted table n count fits.some within some (omega arith)
 
   unfaulted-fits : ◌≡◌ {A = Option RowFault} (row_fault table n count) None → site.sessions ≡ [] → IsTrue (are_unpromised_above site.dag site.floors (last_arrived site.dag)) →
       RowFits site n count
@@ -129,7 +130,6 @@ module _ (core : Core) (site : Site) (n count : ℕ) (both : SiteStands core sit
       record {
         some = may.first;
         most = omega arith;
-        states = may.some;
         bits = omega arith;
         sessions = sessions;
         floors = floors;
@@ -146,25 +146,25 @@ module _ (core : Core) (site : Site) (n count : ℕ) (both : SiteStands core sit
       false_from_ne_true (fits_row site n count)
       (λ fit. both_ways (length site.sessions == 0 && are_unpromised_above site.dag site.floors (last_arrived site.dag)) (sym closed) (fit-free (fits-parts site n count fit)))
 
-  faulted-unfit : (fault : RowFault) → row_fault table n count ≡ Some fault → IsFalse (fits_row site n count)
-  faulted-unfit fault is = false_from_ne_true (fits_row site n count)
-      (λ fit. none-some fault (sym (fit-unfaulted (fits-parts site n count fit)) ∙ is))
+  faulted-unfit : 1 ≤ count → (fault : RowFault) → row_fault table n count ≡ Some fault → IsFalse (fits_row site n count)
+  faulted-unfit some fault is = false_from_ne_true (fits_row site n count)
+      (λ fit. none-some fault (sym (fit-unfaulted (fits-parts site n count fit) some) ∙ is))
 
   same-store : (store : Store) → store ≡ core.store → SiteStands (record core { store = store }) site
   same-store store same = subst (λ z. SiteStands (record core { store = z }) site) (sym same) both
 
   -- a row that didn't arrive
-  pub row-untaken : (store : Store) (fault : RowFault) (result : Result Bool OutOfMemory) → AdvancedBy table store.table n count (Err fault) →
+  pub row-untaken : 1 ≤ count → (store : Store) (fault : RowFault) (result : Result Bool OutOfMemory) → AdvancedBy table store.table n count (Err fault) →
       store ≡ core.store → UntakenAs fault result →
       RowTakenBy (record core { store = store }) n count site result
-  row-untaken store BadSite result is same e =
-      subst (RowTakenBy (record core { store = store }) n count site) (sym e) (faulted-unfit BadSite is.0, same-store store same)
-  row-untaken store Empty result is same e =
-      subst (RowTakenBy (record core { store = store }) n count site) (sym e) (faulted-unfit Empty is.0, same-store store same)
-  row-untaken store SeqEnd result is same e =
-      subst (RowTakenBy (record core { store = store }) n count site) (sym e) (faulted-unfit SeqEnd is.0, same-store store same)
-  row-untaken store NoMemory (Ok answer) is same e = absurd e
-  row-untaken store NoMemory (Err fault) is same e = same-store store same
+  row-untaken some store BadSite result is same e =
+      subst (RowTakenBy (record core { store = store }) n count site) (sym e) (faulted-unfit some BadSite is.0, same-store store same)
+  row-untaken some store Empty result is same e =
+      subst (RowTakenBy (record core { store = store }) n count site) (sym e) (faulted-unfit some Empty is.0, same-store store same)
+  row-untaken some store SeqEnd result is same e =
+      subst (RowTakenBy (record core { store = store }) n count site) (sym e) (faulted-unfit some SeqEnd is.0, same-store store same)
+  row-untaken some store NoMemory (Ok answer) is same e = absurd e
+  row-untaken some store NoMemory (Err fault) is same e = same-store store same
 
   -- ===== A row that arrived
 
@@ -183,30 +183,31 @@ module _ (core : Core) (site : Site) (n count : ℕ) (both : SiteStands core sit
       ∙ ap (λ k. numbered n (k + count)) (count-is table site.dag site.collected both.0.store.table n may.first may.last)
       ∙ sym (last-of-row site.dag n count may.some)
 
-  pub row-taken : (store : Store) (book : Book) (newest : StateId) → ◌≡◌ {A = Option RowFault} (row_fault table n count) None → site.sessions ≡ [] →
-      IsTrue (are_unpromised_above site.dag site.floors (last_arrived site.dag)) →
-      StoreStands store records collected → store.table.limits ≡ table.limits → newest ≡ last_arrived records → KeepsSessions core.book book →
+  pub unfaulted-fit : ◌≡◌ {A = Option RowFault} (row_fault table n count) None → site.sessions ≡ [] →
+      IsTrue (are_unpromised_above site.dag site.floors (last_arrived site.dag)) → IsTrue (fits_row site n count)
+  unfaulted-fit none sessions floors = fits-from site n count (unfaulted-fits none sessions floors)
+
+  pub row-taken : (store : Store) (book : Book) (newest : StateId) → IsTrue (fits_row site n count) → StoreStands store records collected → store.table.limits ≡ table.limits → newest ≡ last_arrived records → KeepsSessions core.book book →
       floors_of book ≡ map (λ (f : Floor). unpromised newest) (floors_of core.book) → ArePlaced book store.table records collected →
       RowTakenBy (record core { store = store; book = book }) n count site (Ok true)
-  row-taken store book newest none sessions free stands limits is rest floors placed =
-      let fit = fits-from site n count (unfaulted-fits none sessions free) in (
-        fit,
-        (
-          record {
-            store = stands;
-            limits = limits ∙ both.0.limits;
-            own = rest.own ∙ both.0.own;
-            max_sessions = rest.max_sessions ∙ both.0.max_sessions;
-            sessions = ap (mapped session_of) rest.sessions ∙ both.0.sessions;
-            floors = floors ∙ ap₂ (λ (x : StateId) (fs : List Floor). map (λ (f : Floor). unpromised x) fs) is both.0.floors;
-            placed = placed;
-            txns = both.0.txns;
-            slots = λ m t e. absurd (no-txn sessions m t e);
-            waiting = both.0.waiting;
-          },
-          rows-keep-sound site n count both.1 fit,
-        ),
-      )
+  row-taken store book newest fit stands limits is rest floors placed = (
+    fit,
+    (
+      record {
+        store = stands;
+        limits = limits ∙ both.0.limits;
+        own = rest.own ∙ both.0.own;
+        max_sessions = rest.max_sessions ∙ both.0.max_sessions;
+        sessions = ap (mapped session_of) rest.sessions ∙ both.0.sessions;
+        floors = floors ∙ ap₂ (λ (x : StateId) (fs : List Floor). map (λ (f : Floor). unpromised x) fs) is both.0.floors;
+        placed = placed;
+        txns = both.0.txns;
+        slots = λ m t e. absurd (no-txn (fits-parts site n count fit).sessions m t e);
+        waiting = both.0.waiting;
+      },
+      rows-keep-sound site n count both.1 fit,
+    ),
+  )
     where
       no-txn : site.sessions ≡ [] → (m : ℕ) (t : Kept) → entry_of m core.txns ≡ Some t → ⊥
       no-txn none m t e =
@@ -227,6 +228,38 @@ module _ (core : Core) (site : Site) (n count : ℕ) (both : SiteStands core sit
         last_commits = subst (λ z. All (λ (s : OpenSession). HasStandIn store.table records collected s.last) (values_of z)) (sym none)
             (All-nil (λ (s : OpenSession). HasStandIn store.table records collected s.last));
       }
+
+-- ===== A row of no states
+
+module _ (core : Core) (site : Site) (n : ℕ) (both : SiteStands core site) where
+  -- it fits, of one of the sites
+  none-fits : 1 ≤ n → n ≤ core.store.table.limits.sites → true ≡ (length site.sessions == 0 && are_unpromised_above site.dag site.floors (last_arrived site.dag)) →
+      IsTrue (fits_row site n 0)
+  none-fits some within goes =
+      let sites = sites-are core site n 0 both in
+      let bits = count-fits site.dag both.1.dag n in
+      let may = and_parts (length site.sessions == 0) (are_unpromised_above site.dag site.floors (last_arrived site.dag)) (sym goes) in
+      fits-from site n 0
+      (record {
+        some = some;
+        most = omega arith;
+        bits = omega arith;
+        sessions = none-there site.sessions may.0;
+        floors = may.1;
+      })
+
+  -- and was taken, where the floors are set to the state that arrived last
+  pub floors-moved : (book : Book) (slot : Slot) (newest : StateId) → 1 ≤ n → n ≤ core.store.table.limits.sites →
+      true ≡ (length site.sessions == 0 && are_unpromised_above site.dag site.floors (last_arrived site.dag)) →
+      id_at core.store.table slot ≡ Some (last_arrived site.dag) → id_at core.store.table slot ≡ Some newest → KeepsSessions core.book book →
+      floors_of book ≡ map (λ (f : Floor). unpromised newest) (floors_of core.book) →
+      (PlacesBesideFloors (IsAt core.store.table) (HasStandIn core.store.table site.dag site.collected) core.book → ArePlaced book core.store.table site.dag site.collected) →
+      RowTakenBy (record core { book = book }) n 0 site (Ok true)
+  floors-moved book slot newest some within goes last told rest floors placed =
+      let fit = none-fits some within goes in
+      let is = same_Some newest (last_arrived site.dag) (sym told ∙ last) in
+      row-taken core site n 0 both core.store book newest fit both.0.store refl is rest floors
+      (placed (places-then core site n 0 both core.store (fits-parts site n 0 fit).sessions (λ z s known at. at)))
 
 -- ===== The memory
 

@@ -1,4 +1,6 @@
 -- The site in memory: what it holds, when it stands for a plain site, and what its calls answer.
+pub mod Places
+pub mod Adds
 pub mod Txns
 pub mod Core
 pub mod Held
@@ -10,6 +12,7 @@ pub mod Begins
 pub mod Commits
 pub mod Reads
 pub mod NotedReads
+pub mod PlacesRead
 pub mod Merges
 pub mod Exchange
 pub mod Joins

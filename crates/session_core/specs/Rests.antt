@@ -86,6 +86,10 @@ TakesRow old new n count result = (site : Site) → SiteStands old site → RowT
 abbrev pub MayGoOn : Core → Bool → Type 0
 MayGoOn core may = (site : Site) → SiteStands core site → may ≡ (length site.sessions == 0 && are_unpromised_above site.dag site.floors (last_arrived site.dag))
 
+-- where it may go on a row of no states was taken, of one of the sites
+abbrev pub MovesFloors : Core → Core → (n : ℕ) → Bool → Type 0
+MovesFloors old new n result = MayGoOn old true → TakesRow old new n 0 (Ok result)
+
 -- what is told of a row that did not arrive: there was no memory, or else it doesn't fit
 abbrev pub UntakenAs : RowFault → Result Bool OutOfMemory → Type 0
 UntakenAs RowNoMemory (Ok answer) = ⊥

@@ -126,7 +126,7 @@ impl Parts {
     }
 
     /// Commits the transaction below the states of these slots, as the next state of the site. What it has written is moved
-    /// into the store; where the state isn't added, it is put back.
+    /// into the store; where the state isn't added, it stays.
     fn commit_below(&mut self, actor: u16, below: &[Slot]) -> Result<CommitEnd, Stop>
         requires open { IsTrue (is_open self.old.book actor) }
         requires slots { IsTrue (list_all (is_slot self.old.store.table) below.now) }
@@ -142,17 +142,15 @@ impl Parts {
             sequence: count + 1,
         };
         let parents = states_of(self.alloc, self.store.dag(), below)?;
-        let mut writes = self.txns.take_writes(self.alloc, actor);
-        match self.store.commit(id, below, &mut writes) {
+        let Some(done) = self.txns.commit(&mut self.store, actor, id, below) else {
+            return Err(Stop::Refused(Refusal::NoTxn));
+        };
+        match done {
             Ok(slot) => {
                 self.book.committed(self.store.dag(), actor, slot);
-                self.txns.end(actor);
                 Ok(CommitEnd::Committed { id, parents })
             },
-            Err(fault) => {
-                self.txns.set_writes(actor, writes);
-                Err(Stop::from(fault))
-            },
+            Err(fault) => Err(Stop::from(fault)),
         }
     }
 

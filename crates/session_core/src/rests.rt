@@ -12,7 +12,7 @@ ghost use Rattle.plain_site.specs.Rest.{News};
 ghost use Rattle.session_core.specs.Stands.{StandsForSite};
 ghost use Rattle.session_core.specs.Machine.{opened_with};
 ghost use Rattle.session_core.specs.Rests.{is_quiet, TakesBack, Collects, KeepsSound, IsWelcomeTo, HasFitWrites, is_applied, TakenAs};
-ghost use Rattle.session_core.specs.Rests.{TakesRow, MayGoOn, UntakenAs};
+ghost use Rattle.session_core.specs.Rests.{TakesRow, MayGoOn, MovesFloors, UntakenAs};
 
 use crate::stops::Stop;
 use crate::{Parts, SiteCore};
@@ -74,6 +74,9 @@ impl Parts {
         if !self.may_go_on() {
             return Ok(false);
         }
+        if count == 0 {
+            return Ok(self.move_floors(site));
+        }
         match self.store.advance(site, count) {
             Ok(slot) => {
                 let newest = self.store.dag().id_of(slot);
@@ -82,6 +85,19 @@ impl Parts {
             },
             Err(fault) => untaken(fault),
         }
+    }
+
+    /// Takes a row of no states, which may go on, of one of the sites: each floor is at the state that arrived last.
+    fn move_floors(&mut self, site: u16) -> bool
+        ensures { MovesFloors self.old self.new site result }
+    {
+        if site == 0 || site > self.store.dag().limits().sites {
+            return false;
+        }
+        let slot = self.store.dag().last();
+        let newest = self.store.dag().id_of(slot);
+        self.book.set_floors(newest, slot);
+        true
     }
 
     /// Whether no session is open and no floor was promised yet, each at or above the state that arrived last.
@@ -181,9 +197,9 @@ impl SiteCore {
 
     /// Takes back a row: so many further states of one site, which write nothing, each below the one before it and the first
     /// below the state that arrived last. Each but the last of them is collected, and the one that had arrived last with them;
-    /// every floor is at the last one. `false` where it doesn't fit: where there is no such site, there is no state in it, its
-    /// numbers would not fit 32 bits, a session is open, a floor was promised, or one isn't at or above the state that arrived
-    /// last. Then, and with no memory, all is as before.
+    /// every floor is at the one that has arrived last then, also where the row has no state in it. `false` where it doesn't fit:
+    /// where there is no such site, its numbers would not fit 32 bits, a session is open, a floor was promised, or one isn't at
+    /// or above the state that arrived last. Then, and with no memory, all is as before.
     ///
     /// What a row means is stated in `docs/MODEL.md`, 'Rows'. The cost doesn't grow with the number of states: it is that of
     /// `RecordStore::advance`, and of an ancestry for each site.

@@ -37,7 +37,7 @@ impl Parts {
     {
         self.session(actor)?;
         self.book.close_session(actor);
-        self.txns.end(actor);
+        self.txns.close(actor);
         Ok(Reply::Closed)
     }
 

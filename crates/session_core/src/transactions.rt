@@ -1,11 +1,15 @@
 //! The open transactions.
 
-ghost use Rattle.std.specs.Prelude.{◌≡◌, [], Some, is_some, IsTrue, OnOk, OnErr};
-ghost use Rattle.std.specs.Option.{option_copied, option_map_or};
-ghost use Rattle.plain_dag.specs.Entries.{entry_of, with_entry, without_entry, changed};
-ghost use Rattle.merge_txn.specs.Txns.{writes_of, with_writes};
+ghost use Rattle.std.specs.Prelude.{◌≡◌, ◌≤◌, ◌+◌, ◌-◌, [], Some, None, is_some, slice_get, unwrap_or, IsTrue, OnOk, OnErr};
+ghost use Rattle.std.specs.List.{list_all};
+ghost use Rattle.std.specs.Option.{option_copied};
+ghost use Rattle.plain_dag.specs.Entries.{entry_of, with_entry, without_entry};
+ghost use Rattle.state_dag.specs.Table.{is_slot};
+ghost use Rattle.merge_txn.specs.Txns.{writes_of};
 ghost use Rattle.merge_txn.specs.declared.Txn.{Txn};
 ghost use Rattle.session_core.specs.Txns.{has_slots, slot_read, NotedAs, PutAs};
+ghost use Rattle.session_core.specs.Adds.{Adds, CommitsAtPlace, CommitsIn};
+ghost use Rattle.session_core.specs.PlacesRead.{ReadsAtPlace, NotedAtPlace, PutAtPlace};
 ghost use Rattle.session_core.specs.NotedReads.{ReadsIn, TxnReads};
 
 use merge_txn::{Txn, TxnFault};
@@ -13,7 +17,7 @@ use record_store::RecordStore;
 use std::alloc::Global;
 use std::collections::BTreeMap;
 use std::marker::Model;
-use tardis_base::{Found, Key, NoMemory, Slot, Write, WriteSet};
+use tardis_base::{AddFault, Found, Key, NoMemory, Slot, StateId, Write};
 
 /// What became of a read that was to be noted.
 pub enum NotedRead<'s> {
@@ -29,16 +33,18 @@ pub enum NotedRead<'s> {
 /// The open transactions, by the numbers of their sessions.
 #[derive(Drop)]
 pub struct TxnBook {
-    entries: BTreeMap<u16, Txn>,
+    /// A session's place stays when its transaction ends, so that the next one moves no other, until the session closes.
+    entries: BTreeMap<u16, Option<Txn>>,
 }
 
 impl Model for TxnBook {
     ghost use Rattle.std.specs.Prelude.{List, ℕ};
     ghost use Rattle.merge_txn.specs.declared.Txn.{Txn};
+    ghost use Rattle.session_core.specs.Places.{open_of};
 
     ghost Value = { List (ℕ × Txn) };
 
-    ghost view = { λ a. a.entries.entries };
+    ghost view = { λ a. open_of a.entries.entries };
 }
 
 impl TxnBook {
@@ -55,14 +61,20 @@ impl TxnBook {
     pub fn get(&self, session: u16) -> Option<&Txn>
         ensures { option_copied result ≡ entry_of session self.now }
     {
-        self.entries.get(&session)
+        // What is said of a map with its length: that its numbers ascend. So no other place is the session's.
+        let _places = self.entries.len();
+        match self.entries.get(&session) {
+            Some(Some(txn)) => Some(txn),
+            Some(None) => None,
+            None => None,
+        }
     }
 
     /// Whether the session has a transaction.
     pub fn is_open(&self, session: u16) -> bool
         ensures { result ≡ is_some (entry_of session self.now) }
     {
-        self.entries.contains_key(&session)
+        self.get(session).is_some()
     }
 
     /// The transaction of the session, which had none before, or another one.
@@ -70,7 +82,7 @@ impl TxnBook {
         ensures begun { OnOk result (self.new ≡ with_entry session txn self.old) }
         ensures same { OnErr result (self.new ≡ self.old) }
     {
-        self.entries.insert(session, txn)?;
+        self.entries.insert(session, Some(txn))?;
         Ok(())
     }
 
@@ -81,7 +93,7 @@ impl TxnBook {
         ensures { ReadsIn store.now self.old self.new session key result }
     {
         match self.entries.get_mut(&session) {
-            Some(txn) => read_in(store, txn, key),
+            Some(place) => read_at(store, place, key),
             None => NotedRead::Other(key),
         }
     }
@@ -91,7 +103,7 @@ impl TxnBook {
         ensures { NotedAs self.old self.new session key result }
     {
         match self.entries.get_mut(&session) {
-            Some(txn) => Some(txn.note_read(key)),
+            Some(place) => note_at(place, key),
             None => None,
         }
     }
@@ -101,39 +113,133 @@ impl TxnBook {
         ensures { PutAs self.old self.new session key write result }
     {
         match self.entries.get_mut(&session) {
-            Some(txn) => Some(txn.put(key, write)),
+            Some(place) => put_at(place, key, write),
             None => None,
         }
     }
 
-    /// What the session's transaction has written is taken out, and it has written nothing; of no transaction nothing is
-    /// taken. It takes no memory.
-    pub fn take_writes(&mut self, alloc: Global, session: u16) -> WriteSet
-        ensures taken { result ≡ option_map_or writes_of (entry_of session self.old) [] }
-        ensures left { self.new ≡ changed session (with_writes []) self.old }
-        ensures back { changed session (with_writes result) self.new ≡ self.old }
+    /// Commits what the session's transaction has written, below the states at these slots, as the state with this id; the
+    /// transaction ends. None where it has none. On a fault it is as before.
+    ///
+    /// It is looked up once, and what it has written is moved into the store: the cost is that of `RecordStore::commit`.
+    pub fn commit(
+        &mut self,
+        store: &mut RecordStore,
+        session: u16,
+        id: StateId,
+        below: &[Slot],
+    ) -> Option<Result<Slot, AddFault>>
+        requires slots { IsTrue (list_all (is_slot store.old.table) below.now) }
+        requires first { 1 ≤ id.site }
+        requires last { id.site ≤ store.old.table.limits.sites }
+        requires next { id.sequence ≡ unwrap_or (slice_get store.old.table.counts (id.site - 1)) 0 + 1 }
+        ensures { CommitsIn store.old store.new self.old self.new session id below.now result }
     {
         match self.entries.get_mut(&session) {
-            Some(txn) => txn.take_writes(alloc),
-            None => WriteSet::new(alloc),
+            Some(place) => commit_at(store, place, id, below),
+            None => None,
         }
     }
 
-    /// The session's transaction, if it has one, has written this, in place of what it had. It takes no memory.
-    pub fn set_writes(&mut self, session: u16, writes: WriteSet)
-        ensures { self.new ≡ changed session (with_writes writes) self.old }
+    /// The session has no transaction any more. It takes no memory.
+    pub fn end(&mut self, session: u16)
+        ensures { self.new ≡ without_entry session self.old }
     {
         match self.entries.get_mut(&session) {
-            Some(txn) => txn.set_writes(writes),
+            Some(place) => empty(place),
             None => {},
         }
     }
 
-    /// The session has no transaction any more.
-    pub fn end(&mut self, session: u16)
+    /// Nothing is kept for the session, and it has no transaction any more. It takes no memory.
+    pub fn close(&mut self, session: u16)
         ensures { self.new ≡ without_entry session self.old }
     {
         self.entries.remove(&session);
+    }
+}
+
+/// The transaction in this place ends.
+fn empty(place: &mut Option<Txn>)
+    ensures { place.new ≡ None }
+{
+    *place = None;
+}
+
+/// Reads the key at the state of the transaction in this place, and notes the read.
+fn read_at<'s>(store: &'s RecordStore, place: &mut Option<Txn>, key: Key) -> NotedRead<'s>
+    requires { (t : Txn) → place.old ≡ Some t → IsTrue (has_slots store.now.table t) }
+    ensures { ReadsAtPlace store.now place.old place.new key result }
+{
+    match place {
+        Some(txn) => read_in(store, txn, key),
+        None => NotedRead::Other(key),
+    }
+}
+
+/// Notes that the transaction in this place reads the key.
+fn note_at(place: &mut Option<Txn>, key: Key) -> Option<Result<(), TxnFault>>
+    ensures { NotedAtPlace place.old place.new key result }
+{
+    match place {
+        Some(txn) => Some(txn.note_read(key)),
+        None => None,
+    }
+}
+
+/// Takes the write into the transaction in this place.
+fn put_at(place: &mut Option<Txn>, key: Key, write: Write) -> Option<Result<(), TxnFault>>
+    ensures { PutAtPlace place.old place.new key write result }
+{
+    match place {
+        Some(txn) => Some(txn.put(key, write)),
+        None => None,
+    }
+}
+
+/// Commits what the transaction in this place has written, and empties the place.
+fn commit_at(
+    store: &mut RecordStore,
+    place: &mut Option<Txn>,
+    id: StateId,
+    below: &[Slot],
+) -> Option<Result<Slot, AddFault>>
+    requires slots { IsTrue (list_all (is_slot store.old.table) below.now) }
+    requires first { 1 ≤ id.site }
+    requires last { id.site ≤ store.old.table.limits.sites }
+    requires next { id.sequence ≡ unwrap_or (slice_get store.old.table.counts (id.site - 1)) 0 + 1 }
+    ensures { CommitsAtPlace store.old store.new place.old place.new id below.now result }
+{
+    let done = match place {
+        Some(txn) => commit_writes(store, txn, id, below),
+        None => return None,
+    };
+    match done {
+        Ok(slot) => {
+            empty(place);
+            Some(Ok(slot))
+        },
+        Err(fault) => Some(Err(fault)),
+    }
+}
+
+/// Commits what the transaction has written, which is moved into the store.
+fn commit_writes(
+    store: &mut RecordStore,
+    txn: &mut Txn,
+    id: StateId,
+    below: &[Slot],
+) -> Result<Slot, AddFault>
+    requires slots { IsTrue (list_all (is_slot store.old.table) below.now) }
+    requires first { 1 ≤ id.site }
+    requires last { id.site ≤ store.old.table.limits.sites }
+    requires next { id.sequence ≡ unwrap_or (slice_get store.old.table.counts (id.site - 1)) 0 + 1 }
+    ensures adds { Adds store.old store.new id (writes_of txn.old) below.now result }
+    ensures left { OnErr result (txn.new ≡ txn.old) }
+{
+    match txn {
+        Txn::Single(single) => store.commit(id, below, &mut single.writes),
+        Txn::Merge(merge) => store.commit(id, below, &mut merge.writes),
     }
 }
 

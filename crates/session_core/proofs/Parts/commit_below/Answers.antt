@@ -3,34 +3,33 @@ use Rattle.state_dag.specs.Table.{id_at}
 use Rattle.state_dag.specs.Stands.{Stands}
 use Rattle.ceiling_book.specs.Places.{AreSlots, ArePlaced}
 use Rattle.ceiling_book.proofs.Growth.{slots-grow, placed-grow}
-use Rattle.merge_txn.specs.Txns.{with_writes}
+use Rattle.session_core.specs.Adds.{CommitsIn}
+use Rattle.tardis_base.specs.declared.ids.StateId.{StateId}
 use Rattle.plain_site.specs.Site.{writes_of, next_record}
 use Rattle.plain_site.specs.Commits.{commit_below}
 use Rattle.session_core.specs.Gives.{Stops}
 use Rattle.session_core.specs.Held.{seen}
 use Rattle.session_core.specs.Stands.{CoreStands}
 use Rattle.session_core.specs.Stops.{add_stop}
-use Rattle.session_core.proofs.Committing.{grown-held, commit-gives, commit-stops, may-commit, writes-as, not-added-held, put-back, ended-taken, told-parents}
+use Rattle.session_core.proofs.Committing.{grown-held, commit-gives, commit-stops, may-commit, writes-as, told-parents}
 use Rattle.session_core.proofs.Parts.commit_below.Goals as goal
 
 pub committed-requires-clause-slots : goal.committed-requires-clause-slots
 committed-requires-clause-slots c =
+    let id : StateId = record { site = c.own_site-own.result; sequence = c.count-count.result + 1 } in
+    let done = subst (λ r. CommitsIn c.self.inside.store c.commit.new.store c.self.inside.txns c.commit.new.self c.args.actor id c.args.below.now (Some r))
+    c.in-Ok.is c.in-Some.ensures in
     subst (λ t. AreSlots c.self.inside.book t) (sym c.dag-in-Ok.ensures)
-    (slots-grow c.self.inside.book c.self.inside.store.table c.commit.new.self.table c.commit.ensures.keeps c.self.invariant.places)
+    (slots-grow c.self.inside.book c.self.inside.store.table c.commit.new.store.table done.2.keeps c.self.invariant.places)
 
-pub invariant_of-self : goal.invariant_of-self
-invariant_of-self c =
-    let ended = ended-taken c.args.actor (with_writes []) c.self.inside.txns c.take_writes-writes.new.self c.end.new.self c.take_writes-writes.ensures.left
-    c.end.ensures in
-    grown-held c.self.inside c.commit.new.self c.committed.new.self c.args.actor c.end.new.self c.self.invariant c.commit.ensures.keeps
-    c.commit.ensures.limits c.committed.ensures.rest
-    (subst (λ t. AreSlots c.committed.new.self t) c.dag-in-Ok.ensures c.committed.ensures.slots) ended
-
-pub invariant_of-self-in-Err-1 : goal.invariant_of-self-in-Err-1
-invariant_of-self-in-Err-1 c =
-    let back = put-back c.args.actor c.take_writes-writes.result c.commit.new.writes c.self.inside.txns c.take_writes-writes.new.self c.set_writes.new.self
-    c.take_writes-writes.ensures.back c.in-Err.ensures.left c.set_writes.ensures in
-    not-added-held c.self.inside c.commit.new.self c.set_writes.new.self c.self.invariant c.in-Err.ensures.same.table back
+pub invariant_of-self-in-Ok : goal.invariant_of-self-in-Ok
+invariant_of-self-in-Ok c =
+    let id : StateId = record { site = c.own_site-own.result; sequence = c.count-count.result + 1 } in
+    let done = subst (λ r. CommitsIn c.self.inside.store c.commit.new.store c.self.inside.txns c.commit.new.self c.args.actor id c.args.below.now (Some r))
+    c.in-Ok.is c.in-Some.ensures in
+    grown-held c.self.inside c.commit.new.store c.committed.new.self c.args.actor c.commit.new.self c.self.invariant done.2.keeps
+    done.2.limits c.committed.ensures.rest
+    (subst (λ t. AreSlots c.committed.new.self t) c.dag-in-Ok.ensures c.committed.ensures.slots) done.3
 
 pub returns-in-Err : goal.returns-in-Err
 returns-in-Err c = λ site stands t xs found named_now arrives.
@@ -42,16 +41,17 @@ returns-in-Err c = λ site stands t xs found named_now arrives.
     may-commit core site here c.dag.result.now c.dag.ensures c.own_site-own.result c.count-count.result c.own_site-own.ensures.is
     c.count-count.ensures.count c.if-count.false c.args.below.now xs (writes_of t) named arrives in
     let r = next_record site xs (writes_of t) in
-    let writes = sym (writes-as core site here n t found c.take_writes-writes.result c.take_writes-writes.ensures.taken) in
+    let id : StateId = record { site = c.own_site-own.result; sequence = c.count-count.result + 1 } in
+    let done = subst (λ r. CommitsIn c.self.inside.store c.commit.new.store c.self.inside.txns c.commit.new.self c.args.actor id c.args.below.now (Some r))
+    c.in-Err.is c.in-Some.ensures in
     let fault = c.in-Err.fault in
-    let added = c.in-Err.ensures.added site.dag site.collected r here.store (sym may.named) writes may.added in
-    let back = put-back n c.take_writes-writes.result c.commit.new.writes c.self.inside.txns c.take_writes-writes.new.self c.set_writes.new.self
-    c.take_writes-writes.ensures.back c.in-Err.ensures.left c.set_writes.ensures in
-    let stops = commit-stops core site here n xs (writes_of t) c.commit.new.self fault may.more added c.in-Err.ensures.same.table in
-    subst (Stops (CoreStands (record core { store = c.commit.new.self; txns = c.set_writes.new.self })) (commit_below site n xs (writes_of t) []) site)
+    let writes = sym (writes-as core site here n t found done.0 done.1) in
+    let added = done.2.added site.dag site.collected r here.store (sym may.named) writes may.added in
+    let stops = commit-stops core site here n xs (writes_of t) c.commit.new.store fault may.more added done.2.same.table in
+    subst (Stops (CoreStands (record core { store = c.commit.new.store; txns = c.commit.new.self })) (commit_below site n xs (writes_of t) []) site)
     (sym c.from.ensures)
-    (subst (λ es. Stops (CoreStands (record core { store = c.commit.new.self; txns = es })) (commit_below site n xs (writes_of t) []) site
-    (add_stop fault)) (sym back) stops)
+    (subst (λ es. Stops (CoreStands (record core { store = c.commit.new.store; txns = es })) (commit_below site n xs (writes_of t) []) site
+    (add_stop fault)) (sym done.3) stops)
 
 pub returns-in-Ok : goal.returns-in-Ok
 returns-in-Ok c = λ site stands t xs found named_now arrives.
@@ -63,20 +63,21 @@ returns-in-Ok c = λ site stands t xs found named_now arrives.
     may-commit core site here c.dag.result.now c.dag.ensures c.own_site-own.result c.count-count.result c.own_site-own.ensures.is
     c.count-count.ensures.count c.if-count.false c.args.below.now xs (writes_of t) named arrives in
     let r = next_record site xs (writes_of t) in
-    let writes = sym (writes-as core site here n t found c.take_writes-writes.result c.take_writes-writes.ensures.taken) in
-    let added = c.in-Ok.ensures.added site.dag site.collected r here.store (sym may.named) writes may.added in
+    let id : StateId = record { site = c.own_site-own.result; sequence = c.count-count.result + 1 } in
+    let done = subst (λ r. CommitsIn c.self.inside.store c.commit.new.store c.self.inside.txns c.commit.new.self c.args.actor id c.args.below.now (Some r))
+    c.in-Ok.is c.in-Some.ensures in
+    let writes = sym (writes-as core site here n t found done.0 done.1) in
+    let added = done.2.added site.dag site.collected r here.store (sym may.named) writes may.added in
     let stands_new = subst (λ z. Stands z (r ∷ site.dag) site.collected) (sym c.dag-in-Ok.ensures) added.1.table in
     let placed =
     subst (λ z. ArePlaced c.self.inside.book z (r ∷ site.dag) site.collected) (sym c.dag-in-Ok.ensures)
-    (placed-grow c.self.inside.book c.self.inside.store.table c.commit.new.self.table site.dag site.collected r here.store.table c.commit.ensures.keeps
+    (placed-grow c.self.inside.book c.self.inside.store.table c.commit.new.store.table site.dag site.collected r here.store.table done.2.keeps
     here.placed) in
-    let named_new = subst (λ z. id_at z c.in-Ok.slot ≡ Some r.id) (sym c.dag-in-Ok.ensures) (c.in-Ok.ensures.slot.1 ∙ ap (λ y. Some y) may.named) in
-    let ended = ended-taken n (with_writes []) c.self.inside.txns c.take_writes-writes.new.self c.end.new.self c.take_writes-writes.ensures.left
-    c.end.ensures in
-    commit-gives core site here n xs (writes_of t) c.commit.new.self c.committed.new.self c.end.new.self
-    (record { site = c.own_site-own.result; sequence = c.count-count.result + 1 }) c.in_ok-parents.parents may.more may.named
+    let named_new = subst (λ z. id_at z c.in-Ok.slot ≡ Some r.id) (sym c.dag-in-Ok.ensures) (done.2.slot.1 ∙ ap (λ y. Some y) may.named) in
+    commit-gives core site here n xs (writes_of t) c.commit.new.store c.committed.new.self c.commit.new.self
+    id c.in_ok-parents.parents may.more may.named
     (told-parents c.dag-2.result.now c.self.inside.store.table c.dag-2.ensures c.args.below.now xs c.in_ok-parents.parents c.in_ok-parents.ensures named)
-    added c.commit.ensures.keeps c.commit.ensures.limits c.committed.ensures.rest
+    added done.2.keeps done.2.limits c.committed.ensures.rest
     (c.committed.ensures.sessions (r ∷ site.dag) site.collected stands_new placed r.id named_new)
     (subst (λ z. ArePlaced c.committed.new.self z (r ∷ site.dag) site.collected) c.dag-in-Ok.ensures
-    (c.committed.ensures.placed (r ∷ site.dag) site.collected stands_new placed)) ended
+    (c.committed.ensures.placed (r ∷ site.dag) site.collected stands_new placed)) done.3

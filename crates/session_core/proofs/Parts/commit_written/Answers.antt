@@ -10,7 +10,7 @@ use Rattle.session_core.specs.Gives.{Stops}
 use Rattle.session_core.specs.Held.{seen}
 use Rattle.session_core.specs.Stands.{CoreStands}
 use Rattle.session_core.proofs.Committing.{grown-held, commit-gives, commit-stops, may-commit, not-added-held, told-parents}
-use Rattle.session_core.proofs.JoiningInOne.{without-none}
+use Rattle.session_core.proofs.Entries.{without-none}
 use Rattle.session_core.proofs.Parts.commit_written.Goals as goal
 
 pub committed-requires-clause-slots : goal.committed-requires-clause-slots

@@ -1,8 +1,14 @@
-use Rattle.std.proofs.Common.{◌∙◌, ap}
+use Rattle.std.proofs.Common.{◌∙◌, Some, ap}
 use Rattle.plain_dag.specs.Entries.{with_entry}
+use Rattle.session_core.specs.Places.{open_of}
 use Rattle.session_core.proofs.Entries.{is-inserted}
+use Rattle.session_core.proofs.Places.{open-with}
 use Rattle.session_core.proofs.transactions.TxnBook.begin.Goals as goal
 
 pub returns-clause-begun : goal.returns-clause-begun
-returns-clause-begun c = c.in_ok-insert.ensures.entries ∙ is-inserted c.args.session c.args.txn c.self.inside.entries.entries
-    ∙ ap (with_entry c.args.session c.args.txn) c.self.view_is
+returns-clause-begun c =
+    let n = c.args.session in
+    let es = c.self.inside.entries.entries in
+    ap open_of (c.in_ok-insert.ensures.entries ∙ is-inserted n (Some c.args.txn) es)
+    ∙ open-with n c.args.txn es c.in_ok-insert.ensures.was_ordered
+    ∙ ap (with_entry n c.args.txn) c.self.view_is

@@ -1,8 +1,8 @@
-use Rattle.std.proofs.Common.{◌∙◌, Some, None, sym, ap, subst}
+use Rattle.std.proofs.Common.{◌∙◌, None, sym, ap, subst}
 use Rattle.std.specs.Option.{option_copied_mut}
-use Rattle.merge_txn.specs.Txns.{has_no_place_to_read, reads_of, too_many_reads}
-use Rattle.session_core.specs.Txns.{NotedAs, noting}
-use Rattle.session_core.proofs.Written.{nothing-there, was-there, is-changed}
+use Rattle.session_core.specs.Places.{open_of}
+use Rattle.session_core.specs.Txns.{NotedAs}
+use Rattle.session_core.proofs.Written.{nothing-there, is-noted}
 use Rattle.session_core.proofs.transactions.TxnBook.note_read.Goals as goal
 use Rattle.session_core.proofs.transactions.TxnBook.note_read.Goals.{in-Some, in-None}
 
@@ -15,20 +15,15 @@ returns c =
     elim c.match-get_mut.branch [
       | in-Some w ↦
           let found = sym c.get_mut.ensures.value ∙ ap option_copied_mut w.in-Some.is in
-          let after = (c.get_mut.follows.lender w.note_read.new.self).entries in
-          let put = (c.get_mut.follows.holds w.note_read.new.self).0 in
-          let v = w.in-Some.txn.now in
-          subst (λ r. NotedAs now c.match-get_mut.self-inside.entries.entries n k r) (sym w.result-is)
-          (subst (λ i. NotedAs now i.entries.entries n k (Some w.note_read.result)) (sym w.self-inside-is) (
-            v,
-            was-there n es now after v w.note_read.new.self c.self.view_is put c.get_mut.ensures.ordered found,
-            is-changed n es now after v w.note_read.new.self c.self.view_is put c.get_mut.ensures.ordered found (noting k)
-                (has_no_place_to_read k (reads_of v)) too_many_reads w.note_read.result w.note_read.ensures.noted
-                w.note_read.ensures.same w.note_read.ensures.full w.note_read.ensures.fault,
-          ))
+          let after = (c.get_mut.follows.lender w.note_at.new.place).entries in
+          let put = (c.get_mut.follows.holds w.note_at.new.place).0 in
+          subst (λ r. NotedAs now (open_of c.match-get_mut.self-inside.entries.entries) n k r) (sym w.result-is)
+          (subst (λ i. NotedAs now (open_of i.entries.entries) n k w.note_at.result) (sym w.self-inside-is)
+          (is-noted n es after now w.in-Some.place.now w.note_at.new.place c.self.view_is put c.get_mut.ensures.ordered found k w.note_at.result
+          w.note_at.ensures))
       | in-None w ↦
           let none = sym c.get_mut.ensures.value ∙ ap option_copied_mut w.in-None.is in
-          subst (λ r. NotedAs now c.match-get_mut.self-inside.entries.entries n k r) (sym w.result-is)
-          (subst (λ i. NotedAs now i.entries.entries n k None) (sym w.self-inside-is)
-          (nothing-there n es now c.self.view_is none, ap (λ m. m.entries) c.get_mut.follows.holds-at-none ∙ c.self.view_is))
+          subst (λ r. NotedAs now (open_of c.match-get_mut.self-inside.entries.entries) n k r) (sym w.result-is)
+          (subst (λ i. NotedAs now (open_of i.entries.entries) n k None) (sym w.self-inside-is)
+          (nothing-there n es now c.self.view_is none, ap (λ m. open_of m.entries) c.get_mut.follows.holds-at-none ∙ c.self.view_is))
     ]
