@@ -1,9 +1,8 @@
 -- Each event leads to a site that follows, and what lasts of it is seen between the two.
-use Rattle.std.proofs.Common.{◌≡◌, ℕ, ◌==◌, false, if◌then◌else◌, List, [], ◌∷◌, Option, Some, None, IsTrue, IsFalse, inl, inr, refl, sym, ap, subst, ◌∙◌, arith, eqb-true}
+use Rattle.std.proofs.Common.{◌≡◌, ℕ, if◌then◌else◌, List, [], Option, Some, None, IsTrue, IsFalse, refl, sym, ap, subst, ◌∙◌}
 use Rattle.std.specs.Prelude.{option_to_list, option_map, OnOk, OnErr, Result, Ok, Err}
 use Rattle.std.specs.Option.{option_and_then}
-use Rattle.std.proofs.lemmas.Bool.{cond-true, cond-false, or_cases, ne_eqb, both_ways, false_from_ne_true}
-use Rattle.std.proofs.lemmas.Slice.Eq.{bytes_eq-Decides}
+use Rattle.std.proofs.lemmas.Bool.{cond-true, cond-false}
 use Rattle.std.proofs.lemmas.Option.{none-some}
 use Rattle.tardis_base.specs.declared.faults.NoMemory.{NoMemory}
 use Rattle.tardis_base.specs.declared.requests.Request.{Request}
@@ -30,7 +29,6 @@ use Rattle.session_core.specs.Core.{Core}
 use Rattle.session_core.specs.Stands.{StandsForSite}
 use Rattle.session_core.specs.Machine.{SiteStands}
 use Rattle.rest_site.specs.Notes.{Follows}
-use Rattle.rest_site.specs.declared.oldest_codes.TheConstants.{OLDEST}
 use Rattle.rest_site.specs.Oldest.{asks_oldest}
 use Rattle.rest_site.specs.Ruled.{ruled_bytes}
 use Rattle.rest_site.specs.RestingLaws.{lives_dont_join, lives_tell_no_ceiling}

@@ -92,17 +92,13 @@ fn read_life(reader: &mut Reader<'_>) -> Option<Result<Thing, NoMemory>>
     Some(Ok(Thing::Life(new)))
 }
 
-/// A row: the number of its site, and how many states there are, which is one at least.
+/// A row: the number of its site, and how many states there are.
 fn read_row(reader: &mut Reader<'_>) -> Option<Result<Thing, NoMemory>>
     ensures { IsRead (new_row_front reader.old) result reader.new }
 {
     let site = reader.u16()?;
     let count = reader.u32()?;
-    if count >= 1 {
-        Some(Ok(Thing::Row { site, count }))
-    } else {
-        None
-    }
+    Some(Ok(Thing::Row { site, count }))
 }
 
 /// The number of its site, and the 16 bytes.

@@ -29,7 +29,7 @@ reads-new-life =
     (λ new h. refl) (λ p. refl) (λ p. refl) (reads-both reads-u16 reads-life)
 
 reads-row : Reads is_row row_spelling row_front
-reads-row = reads-both reads-u16 reads-count
+reads-row = reads-both reads-u16 reads-u32
 
 pub reads-thing : Reads is_thing thing_spelling thing_front
 reads-thing = record {

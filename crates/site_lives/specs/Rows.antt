@@ -8,7 +8,7 @@ use Rattle.tardis_base.specs.Plain.{Event}
 use Rattle.plain_dag.specs.Collection.{kept_states}
 use Rattle.plain_site.specs.Site.{opening}
 use Rattle.plain_site.specs.RowWords.{◌·◌, program_limits}
-use Rattle.plain_site.specs.Rest.{News}
+use Rattle.plain_site.specs.Rest.{News, Collection}
 use Rattle.plain_site.specs.RowByteWords.{hex, ByteLine, ◌sends◌=>◌}
 use Rattle.site_lives.specs.Acquainted.{Acquainted, unacquainted, acquainted_machine}
 use Rattle.site_lives.specs.Things.{LastingThing, OfSite, OfLives, OfRow, replay_things, all_things_fit, all_spellings}
@@ -77,7 +77,7 @@ LivesOutlastTheSite =
     × (all_things_fit site (own ∷ OfLives (record { number = 3; life = hex "bbbbbbbbbbbbbbbbbbbbbbbbbbbbbbbb" }) ∷ []) ≡ false)
 
 -- A row is 5, the site's number and how many states there are. A site that opens takes it back, and another one behind it: of the
--- states of both the last is kept. None fits that has no state or is of a third of two sites, and none behind the promise of a floor.
+-- states of both the last is kept. None fits that is of a third of two sites, or stands behind the promise of a floor.
 abbrev pub RowsAreTakenBack : Type 0
 RowsAreTakenBack =
     let site = unacquainted (opening (program_limits 2) 1) in
@@ -87,10 +87,27 @@ RowsAreTakenBack =
     (all_spellings rows ≡ hex "05 0002 00000002 05 0001 00000001")
     × (all_things_fit site rows ≡ true)
     × (kept_states behind.dag behind.collected ≡ (1 · 1) ∷ [])
-    × (all_things_fit site (OfRow 2 0 ∷ []) ≡ false)
     × (all_things_fit site (OfRow 3 1 ∷ []) ≡ false)
     × (all_things_fit site (promise ∷ []) ≡ true)
     × (all_things_fit site (promise ∷ OfRow 2 2 ∷ []) ≡ false)
+
+-- Behind the record of a state below the root the floors are at the root still, and it isn't closed. A row of no states moves them to
+-- that state, and the root is collected. It fits at a site that opens too; not of a third of two sites, nor behind a promise.
+abbrev pub EmptyRowsMoveTheFloors : Type 0
+EmptyRowsMoveTheFloors =
+    let site = unacquainted (opening (program_limits 2) 1) in
+    let made = OfSite (News (State (record { id = 1 · 1; parents = root ∷ []; writes = [] }))) in
+    let collected = OfSite (Collection 1) in
+    let promise = OfSite (News (Promise (record { site = 1; number = 1; floor = root; count = 0 }))) in
+    let things = made ∷ OfRow 2 0 ∷ collected ∷ [] in
+    let behind = (replay_things things site).site in
+    (all_spellings things ≡ hex "01 0001 00000001 01 0000 00000000 00 05 0002 00000000 03 00000001")
+    × (all_things_fit site things ≡ true)
+    × (kept_states behind.dag behind.collected ≡ (1 · 1) ∷ [])
+    × (all_things_fit site (made ∷ collected ∷ []) ≡ false)
+    × (all_things_fit site (OfRow 2 0 ∷ []) ≡ true)
+    × (all_things_fit site (OfRow 3 0 ∷ []) ≡ false)
+    × (all_things_fit site (promise ∷ OfRow 2 0 ∷ []) ≡ false)
 
 -- what lasts of a commit of the only site below this state: its fourth state, which writes x
 abbrev pub fourth_below : StateId → LastingThing

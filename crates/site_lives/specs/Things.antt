@@ -3,13 +3,13 @@ use Rattle.std.specs.Prelude.{ℕ, Bool, true, ◌&&◌, List, [], ◌∷◌, �
 use Rattle.std.specs.List.{list_all}
 use Rattle.tardis_base.specs.declared.records.Item.TheVariants.{State, Promise}
 use Rattle.tardis_base.specs.Plain.{Event}
-use Rattle.tardis_base.specs.Valid.{is_u16}
+use Rattle.tardis_base.specs.Valid.{is_u16, is_u32}
 use Rattle.wire_item.specs.Spellings.{u16_spelling, u32_spelling}
 use Rattle.wire_item.specs.Fronts.{Front, bytes_front, made, only_if, both, by_code}
 use Rattle.wire_item.specs.Readings.{u16_front, u32_front, record_front, consent_front}
 use Rattle.wire_lives.specs.Spellings.{is_life}
 use Rattle.plain_site.specs.Rest.{Lasting, News, Collection, at_rest, lasting_of_event, with_lasting, fits}
-use Rattle.plain_site.specs.RestSpellings.{lasting_spelling, is_count, is_lasting}
+use Rattle.plain_site.specs.RestSpellings.{lasting_spelling, is_lasting}
 use Rattle.plain_rows.specs.Rows.{with_row, fits_row}
 use Rattle.site_lives.specs.declared.lives.NewLife.{NewLife}
 use Rattle.site_lives.specs.Lives.{is_of_lives, fits_life}
@@ -73,9 +73,8 @@ thing_spelling (OfRow n count) = 5 ∷ row_spelling (n, count)
 abbrev pub is_new_life : NewLife → Bool
 is_new_life new = is_u16 new.number && is_life new.life
 
--- there is a state in it
 abbrev pub is_row : ℕ × ℕ → Bool
-is_row row = is_u16 row.0 && is_count row.1
+is_row row = is_u16 row.0 && is_u32 row.1
 
 abbrev pub is_thing : LastingThing → Bool
 is_thing (OfSite l) = is_lasting l
@@ -87,7 +86,7 @@ abbrev pub life_front : Front NewLife
 life_front = made (λ p. record { number = p.0; life = p.1 }) (both u16_front (bytes_front 16))
 
 abbrev pub row_front : Front (ℕ × ℕ)
-row_front = both u16_front (only_if (nat_le 1) u32_front)
+row_front = both u16_front u32_front
 
 abbrev pub thing_rows : List (ℕ × Front LastingThing)
 thing_rows =

@@ -1,6 +1,6 @@
 //! Worked rows. Each call does nothing.
 
-ghost use Rattle.site_lives.specs.Rows.{MeetingsAreAnswered, LivesOutlastTheSite, RowsAreTakenBack, RecordsStandBehindRows};
+ghost use Rattle.site_lives.specs.Rows.{MeetingsAreAnswered, LivesOutlastTheSite, RowsAreTakenBack, EmptyRowsMoveTheFloors, RecordsStandBehindRows};
 
 /// What the first of two sites answers when it is to meet others.
 pub fn meetings_are_answered()
@@ -15,6 +15,11 @@ pub fn lives_outlast_the_site()
 /// A row in bytes, what a site makes of it, and where none fits.
 pub fn rows_are_taken_back()
     ensures { RowsAreTakenBack }
+{}
+
+/// A row of no states, and what it lets go.
+pub fn empty_rows_move_the_floors()
+    ensures { EmptyRowsMoveTheFloors }
 {}
 
 /// The record of a state below the last one of a row.

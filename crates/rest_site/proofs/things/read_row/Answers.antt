@@ -1,9 +1,7 @@
-use Rattle.std.proofs.Common.{ℕ, refl, le-leb, nat_le, arith}
-use Rattle.std.proofs.lemmas.Bool.{false_from_ne_true, leb-true}
-use Rattle.wire_item.specs.Fronts.{only_if}
+use Rattle.std.proofs.Common.{ℕ, refl}
 use Rattle.wire_item.specs.Readings.{u16_front, u32_front}
-use Rattle.wire_item.proofs.Fronts.{made-read, only_if-read}
-use Rattle.wire_item.proofs.Takings.{taken, untaken, made-none, only_if-none, only_if-fails, after-none, after-then_none, after-then}
+use Rattle.wire_item.proofs.Fronts.{made-read}
+use Rattle.wire_item.proofs.Takings.{taken, untaken, made-none, after-none, after-then_none, after-then}
 use Rattle.site_lives.specs.Things.{LastingThing, OfRow, row_front}
 use Rattle.rest_site.specs.Takings.{new_row_front}
 use Rattle.rest_site.proofs.Taken.{read-none}
@@ -17,7 +15,7 @@ returns-in_err-site c =
     let old = c.args.reader.now in
     read-none (new_row_front old) c.from_residual.result c.u16.new.self c.from_residual.ensures
     (made-none of-parts row_front old
-    (after-none u16_front (λ _. only_if (nat_le 1) u32_front) old (untaken u16_front old c.u16.new.self c.in_err-site.ensures)))
+    (after-none u16_front (λ _. u32_front) old (untaken u16_front old c.u16.new.self c.in_err-site.ensures)))
 
 pub returns-in_err-count : goal.returns-in_err-count
 returns-in_err-count c =
@@ -26,36 +24,19 @@ returns-in_err-count c =
     let number = taken u16_front old first c.in_ok-site.site c.in_ok-site.ensures in
     read-none (new_row_front old) c.from_residual-in_err-count.result c.u32.new.self c.from_residual-in_err-count.ensures
     (made-none of-parts row_front old
-    (after-then_none u16_front (λ _. only_if (nat_le 1) u32_front) old c.in_ok-site.site first number
-    (only_if-none (nat_le 1) u32_front first (untaken u32_front first c.u32.new.self c.in_err-count.ensures))))
+    (after-then_none u16_front (λ _. u32_front) old c.in_ok-site.site first number
+    (untaken u32_front first c.u32.new.self c.in_err-count.ensures)))
 
-pub returns-then-count-ge1 : goal.returns-then-count-ge1
-returns-then-count-ge1 c =
+pub returns : goal.returns
+returns c =
     let old = c.args.reader.now in
     let first = c.u16.new.self in
     let second = c.u32.new.self in
     let n = c.in_ok-site.site in
     let count = c.in_ok-count.count in
     let number = taken u16_front old first n c.in_ok-site.ensures in
-    let read = taken u32_front first second count c.in_ok-count.ensures in
-    let fits = le-leb 1 count c.if-count-ge1.true in (
+    let read = taken u32_front first second count c.in_ok-count.ensures in (
       OfRow n count,
-      made-read of-parts row_front old (n, count) second
-          (after-then u16_front (λ _. only_if (nat_le 1) u32_front) old n first count second number
-          (only_if-read (nat_le 1) u32_front first count second read fits)),
+      made-read of-parts row_front old (n, count) second (after-then u16_front (λ _. u32_front) old n first count second number read),
       refl,
     )
-
-pub returns-else-count-ge1 : goal.returns-else-count-ge1
-returns-else-count-ge1 c =
-    let old = c.args.reader.now in
-    let first = c.u16.new.self in
-    let number = taken u16_front old first c.in_ok-site.site c.in_ok-site.ensures in
-    let read = taken u32_front first c.u32.new.self c.in_ok-count.count c.in_ok-count.ensures in
-    let unfit = false_from_ne_true (nat_le 1 c.in_ok-count.count) (λ t.
-    let few = c.if-count-ge1.false in
-    let many = leb-true 1 c.in_ok-count.count t in
-    omega (arith, few, many)) in
-    made-none of-parts row_front old
-    (after-then_none u16_front (λ _. only_if (nat_le 1) u32_front) old c.in_ok-site.site first number
-    (only_if-fails (nat_le 1) u32_front first c.in_ok-count.count c.u32.new.self read unfit))
