@@ -9,7 +9,11 @@ ghost use Rattle.rest_machine.specs.Rests.{most_lasting};
 
 mod asks;
 mod builders;
+mod collecting;
+mod conflicts;
 mod gaps;
+mod joining;
+mod keeping;
 mod needs;
 mod orders;
 mod promising;

@@ -62,6 +62,10 @@ pub(crate) fn gather_needs(
     let mut needs = joined(alloc, needs.as_slice())?;
     leave_room(dag, &mut needs);
     close_sooner(&mut needs);
+    for place in 0..count_kept(dag) {
+        close_children(dag, place, &mut needs);
+    }
+    close_sooner(&mut needs);
     Ok(Needs { needs, children })
 }
 
@@ -107,7 +111,7 @@ fn need_parents(dag: &StateDag, place: usize, needs: &mut Vec<Need>) -> Result<(
     Ok(())
 }
 
-/// The collected children of the state at the place, each before those of its siblings that are kept and arrived later.
+/// The collected children of the state at the place, each before those of its siblings that arrived later.
 fn need_children(dag: &StateDag, place: usize, needs: &mut Vec<Need>) -> Result<(), NoMemory>
     requires { place < length dag.now.entries }
 {
@@ -120,8 +124,9 @@ fn need_children(dag: &StateDag, place: usize, needs: &mut Vec<Need>) -> Result<
                 next = arrival(dag, end);
             } else {
                 let need = before(dag, id, end);
+                next = need.closes.min(next.saturating_sub(1));
                 needs.push(Need {
-                    closes: need.closes.min(next.saturating_sub(1)),
+                    closes: next,
                     is_child: true,
                     ..need
                 })?;
@@ -131,7 +136,7 @@ fn need_children(dag: &StateDag, place: usize, needs: &mut Vec<Need>) -> Result<
     Ok(())
 }
 
-/// The collected children of the state at the place, each behind those of its siblings that are kept and arrived sooner.
+/// The collected children of the state at the place, each behind those of its siblings that arrived sooner.
 fn note_children(
     dag: &StateDag,
     place: usize,
@@ -148,8 +153,9 @@ fn note_children(
             if dag.entry(end).id == id {
                 last = arrival(dag, end);
             } else {
+                last = last.saturating_add(1);
                 needs.push(Need {
-                    opens: last.saturating_add(1),
+                    opens: last,
                     is_child: true,
                     ..before(dag, id, end)
                 })?;
@@ -212,6 +218,24 @@ fn leave_room(dag: &StateDag, needs: &mut Vec<Need>) {
     for need in needs.as_mut_slice() {
         if !need.is_kept && !need.is_parent {
             need.closes = need.closes.min(arrival(dag, need.end).saturating_sub(2));
+        }
+    }
+}
+
+/// A child of the state at the place arrives before its siblings that arrived later.
+fn close_children(dag: &StateDag, place: usize, needs: &mut Vec<Need>)
+    requires { place < length dag.now.entries }
+{
+    let mut next = u64::MAX;
+    for id in dag.entry(place).children.iter().rev() {
+        let number = needs.partition_point(|need| need.id < *id);
+        if let Some(need) = needs.get_mut(number) {
+            if need.id == *id && !need.is_kept {
+                need.closes = need.closes.min(u64::saturating_sub(next, 1));
+            }
+            if need.id == *id {
+                next = need.closes;
+            }
         }
     }
 }

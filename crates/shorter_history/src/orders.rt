@@ -62,7 +62,7 @@ fn tell_gap(
     Ok(())
 }
 
-/// Tells those that come first of their site and are children of kept states.
+/// Tells those that come first of their site and are the next children of kept states.
 fn tell_children(
     core: &SiteCore,
     needs: &Needs,
@@ -72,7 +72,7 @@ fn tell_children(
     let mut met: u32 = 0;
     for run in gap.as_mut_slice() {
         let bit = 1u32.checked_shl(u32::from(run.site)).unwrap_or(0);
-        if met & bit == 0 && is_child(run, needs) {
+        if met & bit == 0 && is_next_child(core, run, needs, builder) {
             tell_run(core, needs, run, builder)?;
             run.is_told = true;
         } else {
@@ -87,10 +87,13 @@ fn need_of(run: &Run, needs: &Needs) -> Option<Need> {
     needs.needs.get(run.need?).copied()
 }
 
-fn is_child(run: &Run, needs: &Needs) -> bool {
+/// Whether it is a child of kept states, and all its siblings that arrived sooner were told.
+fn is_next_child(core: &SiteCore, run: &Run, needs: &Needs, builder: &Builder<'_>) -> bool {
     match need_of(run, needs) {
-        Some(need) => need.is_child,
-        None => false,
+        Some(need) if need.is_child => {
+            builder.is_next_child(core.store().dag(), need.id, needs.children.as_slice())
+        },
+        _ => false,
     }
 }
 

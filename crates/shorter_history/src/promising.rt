@@ -1,10 +1,11 @@
 //! What the sites promise, and what is collected by that.
 
 use crate::asks::{count_kept, is_above, slot_at};
-use crate::builders::Builder;
+use crate::builders::{Builder, MOST_ASKED, is_above_floors};
 use crate::gaps::site_at;
 use crate::steps::{EarlyPromise, Step};
 use session_core::SiteCore;
+use state_dag::StateDag;
 use tardis_base::NoMemory;
 
 /// How many promises each site made before its last one, and the place of the state that they promised last.
@@ -12,6 +13,31 @@ use tardis_base::NoMemory;
 struct Promises {
     count: u32,
     floor: usize,
+}
+
+/// How many states stand between the first one that goes and a floor, at most, so that it is asked whether that serves.
+const MOST_BETWEEN: usize = 256;
+
+/// What goes together: how many states, and the places of the first and the last state that stands in for some of them.
+#[derive(Clone, Copy)]
+struct Group {
+    count: u32,
+    first: usize,
+    end: usize,
+}
+
+impl Group {
+    /// So many more go, for which the state at the place stands in.
+    fn add(&mut self, count: u32, place: usize) {
+        if count == 0 {
+            return;
+        }
+        if self.count == 0 {
+            self.first = place;
+        }
+        self.count = self.count.saturating_add(count);
+        self.end = place;
+    }
 }
 
 impl<'a> Builder<'a> {
@@ -22,24 +48,66 @@ impl<'a> Builder<'a> {
             return Ok(());
         }
         let mut promises = Promises { count: 0, floor: 0 };
-        let mut group: u32 = 0;
-        let mut end = 0;
+        let mut group = Group {
+            count: 0,
+            first: 0,
+            end: 0,
+        };
         for place in 0..self.left.len() {
-            if self.left_at(place) > 0 {
-                group = group.saturating_add(self.left_at(place));
-                end = place;
-            }
-            if group > 0 && is_collectable(core, place) && may_promise(core, &promises, end) {
-                self.promise_early(core, &mut promises, end)?;
-                self.telling.push(Step::Collection(group))?;
-                group = 0;
+            group.add(self.left_at(place), place);
+            if group.count > 0 && is_collectable(core, place) {
+                if let Some(floor) = self.early_floor(core, &promises, &group) {
+                    self.promise_early(core, &mut promises, floor)?;
+                    self.telling.push(Step::Collection(group.count))?;
+                    group.count = 0;
+                }
             }
         }
         self.promise_all(core, &promises)?;
-        if group > 0 {
-            self.telling.push(Step::Collection(group))?;
+        if group.count > 0 {
+            self.telling.push(Step::Collection(group.count))?;
         }
         Ok(())
+    }
+
+    /// The place of a state that each site may promise so that the group goes before what stays; where none is found, that in which
+    /// the group ends, if it may be promised.
+    fn early_floor(&self, core: &SiteCore, promises: &Promises, group: &Group) -> Option<usize> {
+        let last = group.end.saturating_add(MOST_ASKED);
+        for place in group.end..last.min(self.left.len()) {
+            if may_promise(core, promises, place) && self.lets_go(core, group, place) {
+                return Some(place);
+            }
+        }
+        if may_promise(core, promises, group.end) {
+            Some(group.end)
+        } else {
+            None
+        }
+    }
+
+    /// Whether a floor at the place closes the group, and nothing that stays and was told later.
+    fn lets_go(&self, core: &SiteCore, group: &Group, floor: usize) -> bool {
+        if floor.saturating_sub(group.first) > MOST_BETWEEN {
+            return false;
+        }
+        let dag = core.store().dag();
+        for place in group.first..floor {
+            let is_left = self.left_at(place) > 0 && place <= group.end;
+            let is_closed = is_above(dag, place, floor);
+            if (is_left && !is_closed) || (is_closed && is_collectable(core, place)) {
+                return false;
+            }
+        }
+        is_above_floors(core, floor) && self.is_behind_rows(dag, floor)
+    }
+
+    /// Whether the kept state at the place is below the last row, if there was one.
+    pub(crate) fn is_behind_rows(&self, dag: &StateDag, place: usize) -> bool {
+        match self.row {
+            Some(row) => is_above(dag, row, place),
+            None => true,
+        }
     }
 
     /// Each site promises the state at the place.

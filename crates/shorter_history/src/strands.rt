@@ -13,6 +13,26 @@ pub(crate) struct Strand {
     pub(crate) top: Option<usize>,
     /// It stands behind the last row.
     pub(crate) is_behind: bool,
+    /// How many of its states are kept that are to be collected, its newest one among them.
+    pub(crate) left: u32,
+    /// Parents of the state in which it ends stand beside it.
+    pub(crate) is_forked: bool,
+    /// One of these is below its newest state.
+    pub(crate) is_covered: bool,
+    /// Several are one in it.
+    pub(crate) is_joined: bool,
+}
+
+/// The strand as it is once the other one is joined with it.
+pub(crate) fn joined_with(strand: &Strand, other: &Strand) -> Strand {
+    Strand {
+        is_behind: strand.is_behind || other.is_behind,
+        left: strand.left.saturating_add(other.left),
+        is_forked: strand.is_forked || other.is_forked,
+        is_covered: false,
+        is_joined: true,
+        ..*strand
+    }
 }
 
 /// The number of a strand that ends in this place, with this tip if there is such a one.

@@ -1,6 +1,6 @@
 //! The versions that are read at the kept states, by the states that wrote them.
 
-ghost use Rattle.std.specs.Prelude.{IsTrue};
+ghost use Rattle.std.specs.Prelude.{◌<◌, length, IfSome, IsTrue};
 ghost use Rattle.state_dag.specs.Table.{is_slot};
 
 use crate::asks::{count_kept, slot_at};
@@ -87,6 +87,29 @@ fn writer_of(found: &Found<'_>) -> Option<StateId> {
         Found::Deleted { writer } => Some(*writer),
         Found::Absent => None,
     }
+}
+
+/// Who wrote what is read of the key at the slot.
+pub(crate) fn writer_at(store: &RecordStore, slot: Slot, key: &Key) -> Option<StateId>
+    requires { IsTrue (is_slot store.now.table slot) }
+{
+    writer_of(&store.read_at(slot, key))
+}
+
+/// The number of the version of this key that the state wrote.
+pub(crate) fn number_of(versions: &[VersionPlace], writer: StateId, key: &Key) -> Option<usize>
+    ensures { IfSome result (λ number. number < length versions.now) }
+{
+    let number = versions.partition_point(|version| is_before(version, writer, key));
+    match versions.get(number) {
+        Some(version) if version.writer == writer && version.key == *key => Some(number),
+        _ => None,
+    }
+}
+
+/// Whether the version stands before that of this writer and key.
+fn is_before(version: &VersionPlace, writer: StateId, key: &Key) -> bool {
+    version.writer < writer || (version.writer == writer && version.key < *key)
 }
 
 /// The place of the first version of this writer, or of a later one.
