@@ -16,3 +16,4 @@ pub mod Ruling
 pub mod Daemons
 pub mod Readings
 pub mod Helps
+pub mod Checks

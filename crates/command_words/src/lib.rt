@@ -5,6 +5,7 @@
 
 mod behind;
 mod capacity;
+mod checks;
 mod commands;
 mod daemons;
 mod doors;
@@ -24,6 +25,7 @@ mod sockets;
 
 pub use behind::words_behind_name;
 pub use capacity::{Capacity, MOST_CONNECTIONS, USUAL_CONNECTIONS};
+pub use checks::checked_file;
 pub use commands::{Command, Place, ServePlan, WordsFault};
 pub use daemons::{DaemonPlan, read_daemon};
 pub use doors::{DoorKind, DoorPlan, MOST_DOORS};

@@ -1,7 +1,7 @@
 //! Why a file wasn't opened: the system is asked once more, and nothing is made.
 
 use crate::words::{FileReason, Unopened};
-use command_words::{read_daemon, words_behind_name};
+use command_words::{checked_file, read_daemon, words_behind_name};
 use std::fs::{self, OpenOptions};
 use std::path::Path;
 use std::{env, io};
@@ -14,6 +14,11 @@ pub(crate) fn tell_unopened(rt: &HostRuntime) -> bool {
     let Ok(words) = words_behind_name(rt.alloc(), args) else {
         return false;
     };
+    if let Some(path) = checked_file(words.as_slice()) {
+        let reason = reason_unread(rt, path);
+        let _ = rt.eprintln(Unopened { path, reason });
+        return true;
+    }
     match read_daemon(rt.alloc(), words.as_slice()) {
         Ok(plan) => tell_path(rt, plan.file),
         Err(_) => false,
@@ -37,6 +42,22 @@ fn reason_of(rt: &HostRuntime, path: &str) -> FileReason {
         Ok(found) if found.is_dir() => FileReason::Folder,
         Ok(found) if !found.is_file() => FileReason::Irregular,
         _ => reason_of_opening(rt, path),
+    }
+}
+
+/// Why the system doesn't open the file at a path for reading.
+fn reason_unread(rt: &HostRuntime, path: &str) -> FileReason {
+    match fs::metadata(rt, path) {
+        Ok(found) if found.is_dir() => return FileReason::Folder,
+        Ok(found) if !found.is_file() => return FileReason::Irregular,
+        _ => {}
+    }
+    match OpenOptions::new().read(true).open(rt, path) {
+        Ok(_) => FileReason::Passed,
+        Err(error) if error.kind() == io::ErrorKind::NotFound => FileReason::NoFile,
+        Err(error) if error.kind() == io::ErrorKind::NotADirectory => FileReason::NoFolder,
+        Err(error) if error.kind() == io::ErrorKind::PermissionDenied => FileReason::Unreadable,
+        Err(error) => FileReason::System(error.kind()),
     }
 }
 

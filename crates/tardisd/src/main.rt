@@ -21,7 +21,7 @@ use std::hash::RandomState;
 use std::io;
 use std::process::ExitCode;
 use std::random::RandomSource;
-use tardis_io::StdOut;
+use tardis_io::{StdOut, WriteFault, write_all};
 use tardisd_main::{DaemonEnd, FileFault, carry_out};
 
 fn main(rt: HostRuntime) -> ExitCode {
@@ -79,9 +79,23 @@ fn run(
             let mut doors = SocketDoors::new(rt);
             let mut store = FileStore::new(alloc, rt);
             let ended = carry_out(alloc, keys, life, args, &mut doors, &mut store, &mut output);
-            (ended, doors.is_told())
+            (tell_check(alloc, ended, &mut output), doors.is_told())
         }
         Err(ended) => (ended, false),
+    }
+}
+
+/// Writes on standard output what a file has that was checked, and answers how the program ends then. Any other end stays.
+fn tell_check(alloc: Global, ended: DaemonEnd, output: &mut StdOut) -> DaemonEnd {
+    let DaemonEnd::Checked(check) = ended else {
+        return ended;
+    };
+    let Ok(text) = format!(in alloc; "{check}") else {
+        return DaemonEnd::NoMemory;
+    };
+    match write_all(output, text.as_bytes()) {
+        Ok(()) => DaemonEnd::Told,
+        Err(WriteFault) => DaemonEnd::WriteFailed,
     }
 }
 
@@ -98,7 +112,7 @@ fn end(rt: &HostRuntime, ended: DaemonEnd, is_told: bool) -> ExitCode
 /// Whether nothing is left to tell of an end. Of a file that can't be opened it is told what the system says.
 fn is_told_by_system(rt: &HostRuntime, ended: DaemonEnd) -> bool {
     match ended {
-        DaemonEnd::Told => true,
+        DaemonEnd::Told | DaemonEnd::Checked(_) => true,
         DaemonEnd::File(FileFault::Refused) => tell_unopened(rt),
         _ => false,
     }

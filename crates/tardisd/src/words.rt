@@ -155,12 +155,16 @@ pub(crate) struct Unopened<'a> {
 pub(crate) enum FileReason {
     /// Its folder isn't there.
     NoFolder,
+    /// It isn't there, and isn't to be made.
+    NoFile,
     /// It is a folder.
     Folder,
     /// It is there, and neither a regular file nor a folder.
     Irregular,
     /// This user may not write there.
     Forbidden,
+    /// This user may not read it.
+    Unreadable,
     /// The system refused for another reason.
     System(io::ErrorKind),
     /// It could be opened when it was tried once more.
@@ -175,11 +179,16 @@ impl fmt::Display for Unopened<'_> {
                 f,
                 "there is no such folder: make it, or name another file"
             ),
+            FileReason::NoFile => write!(f, "there is no such file: name one that is there"),
             FileReason::Folder => write!(f, "it is a folder: name a file in it"),
             FileReason::Irregular => write!(f, "it is no regular file: name another one"),
             FileReason::Forbidden => write!(
                 f,
                 "this user may not read and write it, or its folder: change who may, or name another file"
+            ),
+            FileReason::Unreadable => write!(
+                f,
+                "this user may not read it: change who may, or name another file"
             ),
             FileReason::System(kind) => write!(f, "the system doesn't open it: {kind}"),
             FileReason::Passed => write!(

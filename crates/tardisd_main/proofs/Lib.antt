@@ -4,3 +4,4 @@ pub mod Serving
 pub mod Stores
 pub mod Opened
 pub mod Words
+pub mod Checking

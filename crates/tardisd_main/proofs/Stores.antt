@@ -27,7 +27,7 @@ rose_raised : (s0 s1 s2 : ℕ) → s0 ≤ s1 → s2 ≡ raised s1 → Rose s0 s2
 rose_raised s0 s1 s2 less is = ⊎_elim (λ up. inl (omega (arith, less, is, up))) (λ end. inr (omega (arith, is, end))) (cases_lt s1 18446744073709551615)
 
 -- a store's count rose where its disk counted a fault
-rose_back : (b s0 s1 s2 : ℕ) → s0 ≤ s1 → s2 ≡ count_after b s1 → 0 < b → Rose s0 s2
+pub rose_back : (b s0 s1 s2 : ℕ) → s0 ≤ s1 → s2 ≡ count_after b s1 → 0 < b → Rose s0 s2
 rose_back ℕ.zero s0 s1 s2 less is some = absurd (omega (arith, some))
 rose_back (ℕ.suc n) s0 s1 s2 less is some = rose_raised s0 s1 s2 less is
 

@@ -1,5 +1,5 @@
 -- What the words of a server come to, by the calls that it makes for them.
-use Rattle.std.proofs.Common.{◌≡◌, ◌⊎◌, inl, ⊎_elim, ◌∙◌, ℕ, true, false, List, Option, Some, None, Result, Ok, Err, refl, sym, ap, subst}
+use Rattle.std.proofs.Common.{◌≡◌, ◌⊎◌, ⊎_elim, ◌∙◌, ℕ, true, false, List, Option, Some, None, Result, Ok, Err, refl, sym, ap, subst}
 use Rattle.disk_store.specs.declared.disks.Disk.{Ghosts as ADisk}
 use Rattle.disk_store.specs.declared.stores.Store.{Ghosts as AStore}
 use Rattle.command_words.specs.declared.daemons.DaemonPlan.{DaemonPlan}
@@ -21,7 +21,7 @@ use Rattle.tardisd_main.specs.Ends.{end_by}
 use Rattle.tardisd_main.specs.Sites.{ServesPlace}
 use Rattle.tardisd_main.specs.Files.{begun, Keeps, ServesFile, IsRefused, not_opened}
 use Rattle.tardisd_main.specs.Stores.{EndsKept, ServedFrom, NothingAsked, NoFile, WithFile, KeepsAs}
-use Rattle.tardisd_main.specs.Runs.{EndsAs, ServesAs, Serves, KeepsFile}
+use Rattle.tardisd_main.specs.Runs.{EndsAs, ServesAs}
 
 -- an end of words that were understood, and of which nothing had to be written
 abbrev pub Served : DaemonEnd → Type 0
@@ -29,7 +29,7 @@ Served Usage = ⊥
 Served WriteFailed = ⊥
 Served end = Unit {0}
 
-ends_so : (end other : DaemonEnd) → end ≡ other → Served other → Served end
+pub ends_so : (end other : DaemonEnd) → end ≡ other → Served other → Served end
 ends_so end other is served = subst (λ (e : DaemonEnd). Served e) (sym is) served
 
 pub neither : (end : DaemonEnd) → Served end → (end ≡ Usage → ⊥) × (end ≡ WriteFailed → ⊥)
@@ -40,7 +40,7 @@ served_by Stopped = tt
 served_by AllTurns = tt
 served_by Unsettled = tt
 
-refused_by : (why : OpenEnd) → Served (not_opened why)
+pub refused_by : (why : OpenEnd) → Served (not_opened why)
 refused_by NotALog = tt
 refused_by (OtherVersion version) = tt
 refused_by BadFront = tt
@@ -97,22 +97,13 @@ abbrev in_some : {A : Type 0} → A → Option A → A
 in_some other None = other
 in_some other (Some a) = a
 
-same_some : {A : Type 0} (a b : A) → Some a ≡ Some b → a ≡ b
+pub same_some : {A : Type 0} (a b : A) → Some a ≡ Some b → a ≡ b
 same_some a b e = ap (in_some a) e
 
 -- what is asked for is what the plan says
-pub keeps_file : {D P S K O : Type 0} (opens : Daemon → Result P GateFault → Type 0) (seen : P → Option (List Seen)) (st : AStore S K) (k : ADisk K) (life : List ℕ)
-    (old new : D) (was now : S) (before after : O) (words : List (List ℕ)) (end : DaemonEnd) (plan : DaemonPlan)
-    → daemon (settings words) ≡ Some (daemon_of plan) → after ≡ before
-    → ((path : List ℕ) → (daemon_of plan).file ≡ Some path → KeepsAs opens seen st k life (daemon_of plan) path old new was now end)
-    → KeepsFile opens seen st k life old new was now before after words end
-keeps_file opens seen st k life old new was now before after words end plan says same keeps =
-    λ asked path is filed.
-    let asks = same_some (daemon_of plan) asked (sym says ∙ is) in (
-      subst (λ (a : Daemon). KeepsAs opens seen st k life a path old new was now end) asks
-          (keeps path (subst (λ (a : Daemon). a.file ≡ Some path) (sym asks) filed)),
-      same,
-    )
+pub of_plan : (words : List (List ℕ)) (plan : DaemonPlan) (asked : Daemon) → daemon (settings words) ≡ Some (daemon_of plan)
+    → daemon (settings words) ≡ Some asked → daemon_of plan ≡ asked
+of_plan words plan asked says is = same_some (daemon_of plan) asked (sym says ∙ is)
 
 -- words of which no plan was made: they have no form, or there was no memory for their doors
 abbrev pub Unplanned : List (List ℕ) → DaemonEnd → Type 0
@@ -127,7 +118,7 @@ abbrev HasNothing : {A : Type 0} → Option A → Type 0
 HasNothing None = Unit {0}
 HasNothing (Some a) = ⊥
 
-no_form : {A : Type 0} (o : Option A) (a : A) → o ≡ None → o ≡ Some a → ⊥
+pub no_form : {A : Type 0} (o : Option A) (a : A) → o ≡ None → o ≡ Some a → ⊥
 no_form {A} o a none some = subst (λ (p : Option A). HasNothing p) (sym none ∙ some) tt
 
 short : (end : DaemonEnd) → end ≡ NoMemory → Served end
@@ -155,17 +146,6 @@ pub unplanned_unwritten : (words : List (List ℕ)) (end : DaemonEnd) → Unplan
 unplanned_unwritten words end why is =
     ⊎_elim (λ (p : (end ≡ Usage) × (daemon (settings words) ≡ None)). subst (λ (e : DaemonEnd). IsUsage e) (sym p.0 ∙ is) tt)
     (λ (p : (end ≡ NoMemory) × (asked : Daemon) × (daemon (settings words) ≡ Some asked)). (neither end (short end p.0)).1 is) why
-
-pub unplanned_serves : {D P S O : Type 0} (opens : Daemon → Result P GateFault → Type 0) (seen : P → Option (List Seen)) (life : List ℕ) (old : D) (was : S) (before : O)
-    (words : List (List ℕ)) (end : DaemonEnd) → Unplanned words end → Serves opens seen life old old was was before before words end
-unplanned_serves opens seen life old was before words end why = λ asked is file. (inl (unplanned_some words end asked why is, refl), refl, refl)
-
-pub unplanned_keeps : {D P S K O : Type 0} (opens : Daemon → Result P GateFault → Type 0) (seen : P → Option (List Seen)) (st : AStore S K) (k : ADisk K)
-    (life : List ℕ) (old : D) (was : S) (before : O) (words : List (List ℕ)) (end : DaemonEnd) → Unplanned words end
-    → KeepsFile opens seen st k life old old was was before before words end
-unplanned_keeps opens seen st k life old was before words end why =
-    λ asked path is filed.
-    (record { became = inl (record { end_is = unplanned_some words end asked why is; no_edge = refl; no_file = refl }); still = λ h. h }, refl)
 
 -- what is asked for help is no answer to words that ask for none
 pub unasked : {A : Type 0} (a : A) → ◌≡◌ {A = Option A} None (Some a) → ⊥

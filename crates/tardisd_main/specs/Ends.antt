@@ -6,7 +6,7 @@ use Rattle.tardisd_main.specs.declared.endings.GateFault.TheVariants.{Lost}
 use Rattle.tardisd_main.specs.declared.endings.FileFault.{FileFault}
 use Rattle.tardisd_main.specs.declared.endings.FileFault.TheVariants.{InUse, Refused, Disk, NotALog, OtherVersion, BadFront, OtherSite, OtherLimits, Damaged, Unfit}
 use Rattle.tardisd_main.specs.declared.endings.DaemonEnd.{DaemonEnd}
-use Rattle.tardisd_main.specs.declared.endings.DaemonEnd.TheVariants.{Told, Usage, WriteFailed, NoMemory, Gate, File, Spent}
+use Rattle.tardisd_main.specs.declared.endings.DaemonEnd.TheVariants.{Told, Checked, Usage, WriteFailed, NoMemory, Gate, File, Spent}
 
 -- 10 where the file or its disk can't be used, 13 where what stands in it isn't the log that is wanted
 abbrev pub file_number : FileFault → ℕ
@@ -24,6 +24,7 @@ file_number (Unfit place) = 13
 -- as those of `tardis`
 abbrev pub end_number : DaemonEnd → ℕ
 end_number Told = 0
+end_number (Checked check) = 0
 end_number Usage = 1
 end_number WriteFailed = 3
 end_number NoMemory = 6

@@ -4,4 +4,5 @@ pub mod Ends
 pub mod Sites
 pub mod Files
 pub mod Stores
+pub mod Checks
 pub mod Runs

@@ -5,6 +5,7 @@ use Rattle.disk_store.specs.declared.stores.Store.{Ghosts as AStore}
 use Rattle.command_words.specs.Settings.{settings}
 use Rattle.command_words.specs.Daemons.{Daemon, daemon}
 use Rattle.command_words.specs.Helps.{AskDaemonUsage, AskVersion}
+use Rattle.command_words.specs.Checks.{checked_file}
 use Rattle.hub.specs.declared.ports.Seen.{Seen}
 use Rattle.hub.specs.declared.serves.End.{End}
 use Rattle.hub.specs.declared.serves.End.TheVariants.{Unsettled}
@@ -14,10 +15,11 @@ use Rattle.tardisd_main.specs.declared.endings.DaemonEnd.TheVariants.{Told, Writ
 use Rattle.tardisd_main.specs.Ends.{end_by}
 use Rattle.tardisd_main.specs.Sites.{ServesPlace}
 use Rattle.tardisd_main.specs.Stores.{KeepsAs}
+use Rattle.tardisd_main.specs.Checks.{ChecksAs}
 
 -- the words ask for nothing that the server does
 abbrev pub AreNone : List (List ℕ) → Type 0
-AreNone words = (daemon (settings words) ≡ None) × (AskDaemonUsage words → ⊥) × (AskVersion words → ⊥)
+AreNone words = (daemon (settings words) ≡ None) × (checked_file words ≡ None) × (AskDaemonUsage words → ⊥) × (AskVersion words → ⊥)
 
 -- All of the text was written; or a front of it, where writing failed; or nothing, where there was no memory for the words.
 abbrev pub Tells : List ℕ → DaemonEnd → List ℕ → List ℕ → Type 0
@@ -52,3 +54,14 @@ abbrev pub KeepsFile : {D P S K O : Type 0} → (Daemon → Result P GateFault �
 KeepsFile opens seen st k life old new was now before after words end =
     (asked : Daemon) (path : List ℕ) → daemon (settings words) ≡ Some asked → asked.file ≡ Some path
     → KeepsAs opens seen st k life asked path old new was now end × (after ≡ before)
+
+-- words that ask to check a file: it is read, the edge isn't asked, and nothing is written
+abbrev pub Checks : {D S K O : Type 0} → AStore S K → ADisk K → D → D → S → S → O → O → List (List ℕ) → DaemonEnd → Type 0
+Checks st k old new was now before after words end =
+    (path : List ℕ) → checked_file words ≡ Some path → ChecksAs st k path was now end × (new ≡ old) × (after ≡ before)
+
+-- so it is for the arguments of the program; or there was no memory for them, and then the store wasn't asked
+abbrev pub ChecksWithRoom : {D S K O : Type 0} → AStore S K → ADisk K → D → D → S → S → O → O → List (List ℕ) → DaemonEnd → Type 0
+ChecksWithRoom st k old new was now before after words end =
+    (path : List ℕ) → checked_file words ≡ Some path
+    → (ChecksAs st k path was now end ⊎ ((end ≡ NoMemory) × (now ≡ was))) × (new ≡ old) × (after ≡ before)

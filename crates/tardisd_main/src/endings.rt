@@ -3,6 +3,7 @@
 ghost use Rattle.std.specs.Prelude.{◌≡◌};
 ghost use Rattle.tardisd_main.specs.Ends.{end_by, end_number, file_number};
 
+use crate::checks::FileCheck;
 use command_words::Place;
 use hub::End;
 use std::fmt;
@@ -52,6 +53,8 @@ pub enum FileFault {
 pub enum DaemonEnd {
     /// It told of itself.
     Told,
+    /// A file was read, and has this. It is to be told on standard output.
+    Checked(FileCheck),
     /// The words have none of the forms.
     Usage,
     /// What it tells of itself couldn't be written.
@@ -70,7 +73,7 @@ impl DaemonEnd {
         ensures { result ≡ end_number self }
     {
         match self {
-            DaemonEnd::Told => 0,
+            DaemonEnd::Told | DaemonEnd::Checked(_) => 0,
             DaemonEnd::Usage => 1,
             DaemonEnd::WriteFailed => 3,
             DaemonEnd::NoMemory => 6,
@@ -114,10 +117,10 @@ pub(crate) fn ending_of(end: End) -> DaemonEnd
 impl fmt::Display for DaemonEnd {
     fn fmt<W: fmt::Write>(&self, f: &mut fmt::Formatter<W>) -> fmt::Result {
         match self {
-            DaemonEnd::Told => Ok(()),
+            DaemonEnd::Told | DaemonEnd::Checked(_) => Ok(()),
             DaemonEnd::Usage => write!(
                 f,
-                "usage: tardisd --listen ADDR | --clients ADDR | --peers ADDR .. [--mode MODE] [--idle SECONDS] [--connections N] [--sessions N] [--states N] [--peer ADDR .. [--every SECONDS]] [--sites M] [--site N] [--tidy] [--file PATH] [--rules RULES] (ADDR is unix:PATH or HOST:PORT)"
+                "usage: tardisd --listen ADDR | --clients ADDR | --peers ADDR .. [--mode MODE] [--idle SECONDS] [--connections N] [--sessions N] [--states N] [--peer ADDR .. [--every SECONDS]] [--sites M] [--site N] [--tidy] [--file PATH] [--rules RULES] (ADDR is unix:PATH or HOST:PORT), or tardisd --check --file PATH"
             ),
             DaemonEnd::WriteFailed => write!(f, "tardisd: write fault"),
             DaemonEnd::NoMemory => write!(f, "tardisd: out of memory"),

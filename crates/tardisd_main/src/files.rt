@@ -87,7 +87,7 @@ fn serve_stored<D: Doors, K: BytewiseDisk, S: Store<Disk = K>>(
 }
 
 /// Why a store gave no disk.
-fn unopened<S: Store>(store: &S) -> FileFault
+pub(crate) fn unopened<S: Store>(store: &S) -> FileFault
     ensures { ((result ≡ FileFault.InUse) × (S.locked store.now ≡ true)) ⊎ ((result ≡ FileFault.Refused) × (S.locked store.now ≡ false)) }
 {
     if store.is_locked() {
@@ -207,7 +207,7 @@ fn found_site(site: &RestSite, found: &FoundLog) -> FoundSite {
 }
 
 /// How a server ends whose log isn't opened.
-fn end_of(end: OpenEnd) -> DaemonEnd
+pub(crate) fn end_of(end: OpenEnd) -> DaemonEnd
     ensures { result ≡ not_opened end }
 {
     let fault = match end {

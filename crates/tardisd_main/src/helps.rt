@@ -33,6 +33,9 @@ usage: tardisd DOOR.. [--mode MODE] [--idle SECONDS]
                             goes on from it at the next start; with --rules two
                             branches are joined wherever these settle all keys in
                             which they conflict (docs/RULES.md)
+       tardisd --check --file PATH
+                            tell what that file has and whether it is good; it
+                            is only read
        tardisd --help       this text, as do -h and help
        tardisd --version    the version
 

@@ -4,6 +4,7 @@
 #![tactic(auto)]
 
 mod asks;
+mod checks;
 mod doors;
 mod endings;
 mod files;
@@ -12,6 +13,7 @@ mod programs;
 mod sites;
 
 pub use asks::plan_of;
+pub use checks::{CheckedLog, FileCheck, check_file};
 pub use doors::{Doors, FoundSite, number_of};
 pub use endings::{DaemonEnd, FileFault, GateFault};
 pub use files::serve_file;

@@ -6,19 +6,21 @@ ghost use Rattle.std.specs.Vec.Iter.{into_iter_items};
 ghost use Rattle.tardis_io.specs.Faults.{Rose};
 ghost use Rattle.tardis_io.specs.Told.{WhileTold};
 ghost use Rattle.command_words.specs.Helps.{AskDaemonUsage, AskVersion};
-ghost use Rattle.command_words.specs.Daemons.{daemon_of};
+ghost use Rattle.command_words.specs.Settings.{settings};
+ghost use Rattle.command_words.specs.Daemons.{Daemon, daemon, daemon_of};
 ghost use Rattle.command_words.specs.Capacity.{IsCapacity};
 ghost use Rattle.command_words.specs.Places.{IsPlace};
-ghost use Rattle.tardisd_main.specs.Runs.{AreNone, KeepsFile, Serves, ServesAs, Tells};
+ghost use Rattle.tardisd_main.specs.Runs.{AreNone, Checks, ChecksWithRoom, KeepsFile, Serves, ServesAs, Tells};
 ghost use Rattle.tardisd_main.specs.Stores.{KeepsAs};
 
 use crate::asks::plan_of;
+use crate::checks::check_file;
 use crate::doors::Doors;
 use crate::endings::{DaemonEnd, ending_of};
 use crate::files::serve_file;
 use crate::helps::{USAGE, VERSION, help_text};
 use crate::sites::serve_place;
-use command_words::{DaemonPlan, Help, daemon_help_of, words_behind_name};
+use command_words::{DaemonPlan, Help, checked_file, daemon_help_of, words_behind_name};
 use disk_store::{BytewiseDisk, Store};
 use std::alloc::Global;
 use std::env::Args;
@@ -47,6 +49,8 @@ pub fn carry_out<D: Doors, K: BytewiseDisk, S: Store<Disk = K>, O: Sink>(
         (map (λ w. string_bytes w) (drop 1 (into_iter_items args))) result }
     ensures keep { KeepsFile D.opens D.Ports.seen S.Store K.Disk life doors.old doors.new store.old store.new output.old output.new
         (map (λ w. string_bytes w) (drop 1 (into_iter_items args))) result }
+    ensures check { ChecksWithRoom S.Store K.Disk doors.old doors.new store.old store.new output.old output.new
+        (map (λ w. string_bytes w) (drop 1 (into_iter_items args))) result }
     ensures write_later { O.faults output.old ≤ O.faults output.new }
     ensures write { result ≡ DaemonEnd.WriteFailed → Rose (O.faults output.old) (O.faults output.new) }
 {
@@ -56,10 +60,10 @@ pub fn carry_out<D: Doors, K: BytewiseDisk, S: Store<Disk = K>, O: Sink>(
     }
 }
 
-/// Does what the words ask for: tells of the program, or opens the edge at their doors and to their peers, and serves the site at
-/// their place over the connections that come and fetches, until the edge can't be waited for. With a file the site is read from it
-/// first, and kept in it; one that is new gets this life. A site that has no life yet begins this one before anything is asked of
-/// it. Words without a form are `Usage`.
+/// Does what the words ask for: tells of the program; tells what a file has (`check_file`), and then the edge isn't asked; or opens
+/// the edge at their doors and to their peers, and serves the site at their place over the connections that come and fetches, until
+/// the edge can't be waited for. With a file the site is read from it first, and kept in it; one that is new gets this life. A site
+/// that has no life yet begins this one before anything is asked of it. Words without a form are `Usage`.
 pub fn tardisd<D: Doors, K: BytewiseDisk, S: Store<Disk = K>, O: Sink>(
     alloc: Global,
     keys: RandomState,
@@ -79,15 +83,40 @@ pub fn tardisd<D: Doors, K: BytewiseDisk, S: Store<Disk = K>, O: Sink>(
     ensures serve { Serves D.opens D.Ports.seen life doors.old doors.new store.old store.new output.old output.new (map (λ w. string_bytes w) words.now) result }
     ensures keep { KeepsFile D.opens D.Ports.seen S.Store K.Disk life doors.old doors.new store.old store.new output.old output.new
         (map (λ w. string_bytes w) words.now) result }
+    ensures check { Checks S.Store K.Disk doors.old doors.new store.old store.new output.old output.new (map (λ w. string_bytes w) words.now) result }
     ensures write_later { O.faults output.old ≤ O.faults output.new }
     ensures write { result ≡ DaemonEnd.WriteFailed → Rose (O.faults output.old) (O.faults output.new) }
 {
     match daemon_help_of(words) {
         Some(help) => tell(help, output),
-        None => match plan_of(alloc, words) {
-            Ok(plan) => serve_plan(alloc, keys, life, &plan, doors, store),
-            Err(refused) => refused,
+        None => match checked_file(words) {
+            Some(path) => check_file(alloc, keys, path, store),
+            None => serve_words(alloc, keys, life, words, doors, store),
         },
+    }
+}
+
+/// Serves the site for which the words ask.
+fn serve_words<D: Doors, K: BytewiseDisk, S: Store<Disk = K>>(
+    alloc: Global,
+    keys: RandomState,
+    life: [u8; 16],
+    words: &[String],
+    doors: &mut D,
+    store: &mut S,
+) -> DaemonEnd
+    ensures usage { result ≡ DaemonEnd.Usage → daemon (settings (map (λ w. string_bytes w) words.now)) ≡ None }
+    ensures none { daemon (settings (map (λ w. string_bytes w) words.now)) ≡ None
+        → (result ≡ DaemonEnd.Usage) × (doors.new ≡ doors.old) × (store.new ≡ store.old) }
+    ensures serve { (asked : Daemon) → daemon (settings (map (λ w. string_bytes w) words.now)) ≡ Some asked → asked.file ≡ None
+        → ServesAs D.opens D.Ports.seen life doors.old doors.new asked result × (store.new ≡ store.old) }
+    ensures keep { (asked : Daemon) (path : List ℕ) → daemon (settings (map (λ w. string_bytes w) words.now)) ≡ Some asked → asked.file ≡ Some path
+        → KeepsAs D.opens D.Ports.seen S.Store K.Disk life asked path doors.old doors.new store.old store.new result }
+    ensures write { result ≡ DaemonEnd.WriteFailed → ⊥ }
+{
+    match plan_of(alloc, words) {
+        Ok(plan) => serve_plan(alloc, keys, life, &plan, doors, store),
+        Err(refused) => refused,
     }
 }
 
