@@ -12,3 +12,4 @@ pub mod Opens
 pub mod Readies
 pub mod Drafts
 pub mod Shorter
+pub mod Firsts

@@ -12,6 +12,9 @@ use rest_machine::{Resting, Shortening};
 use std::alloc::Global;
 use tardis_base::NoMemory;
 
+/// The most groups without things that stand behind those of a shorter history: 8,704 bytes at least.
+const MAX_GUARDS: u64 = 512;
+
 /// The text of a log so far, of so many groups; a machine that took their bodies back; and the body of the next group.
 #[derive(Drop)]
 pub(crate) struct Draft<M: Resting> {
@@ -22,19 +25,26 @@ pub(crate) struct Draft<M: Resting> {
 }
 
 /// Drafts a log that is as short as can be and brings a machine that opens to rest as this one does; `None`, where the machine's plan
-/// doesn't. It takes memory for a second machine and for the whole text, and time as they grow.
+/// doesn't. Behind the groups of the plan there are as many without things as `before`, the length of the old text, has KiB, 512 at
+/// most. It takes memory for a second machine and for the whole text, and time as they grow.
 pub(crate) fn draft_log<M: Shortening>(
     alloc: Global,
     machine: &M,
     front: &LogFront,
+    before: u64,
 ) -> Result<Option<Draft<M>>, NoMemory>
     ensures { IfOk result (λ found. FindsShorter M.Resting machine.now front.now found) }
 {
     let plan = machine.plan()?;
     match begun(alloc, machine, front) {
-        Ok(draft) => finished(draft, machine, &plan, front),
+        Ok(draft) => finished(draft, machine, &plan, front, guards_for(before)),
         Err(NoMemory) => Err(NoMemory),
     }
+}
+
+/// How many groups without things stand behind a log that was so long.
+fn guards_for(before: u64) -> u64 {
+    MAX_GUARDS.min(before / 1024)
 }
 
 /// A log without groups, and a machine that opens as this one did.
@@ -47,18 +57,25 @@ fn begun<M: Shortening>(alloc: Global, machine: &M, front: &LogFront) -> Result<
     }
 }
 
-/// Puts all things of a plan into a log, and asks whether this machine rests as the one that took them back.
+/// Puts all things of a plan into a log, so many groups without things behind them, and asks whether this machine rests as the one
+/// that took them back.
 fn finished<M: Shortening>(
     draft: Draft<M>,
     machine: &M,
     plan: &M::Plan,
     front: &LogFront,
+    guards: u64,
 ) -> Result<Option<Draft<M>>, NoMemory>
     requires { HasDraft M.Resting (M.opening machine.now) front.now draft }
     ensures { IfOk result (λ found. FindsShorter M.Resting machine.now front.now found) }
 {
     let mut draft = draft;
     match draft.put_all(machine, plan, front) {
+        Ok(true) => {}
+        Ok(false) => return Ok(None),
+        Err(NoMemory) => return Err(NoMemory),
+    }
+    match draft.put_guards(front, guards) {
         Ok(true) => {}
         Ok(false) => return Ok(None),
         Err(NoMemory) => return Err(NoMemory),
@@ -99,6 +116,21 @@ impl<M: Shortening> Draft<M> {
         self.end_group(front)
     }
 
+    /// Puts so many groups without things behind the others: what a crash leaves is at the end alone, so damage before them is told as such.
+    /// `false` means that the machine doesn't take them back.
+    fn put_guards(&mut self, front: &LogFront, guards: u64) -> Result<bool, NoMemory>
+        ensures { result ≡ Ok true → (from : M.Plain) → HasDraft M.Resting from front.now self.old → HasDraft M.Resting from front.now self.new }
+    {
+        for _guard in 0..guards {
+            match self.put_body(front) {
+                Ok(true) => {}
+                Ok(false) => return Ok(false),
+                Err(NoMemory) => return Err(NoMemory),
+            }
+        }
+        Ok(true)
+    }
+
     /// Makes room for one thing more. `false` means that the machine doesn't take back what is there.
     fn make_way(&mut self, front: &LogFront) -> Result<bool, NoMemory>
         ensures room { result ≡ Ok true → length self.new.body + most_lasting ≤ longest_body }
@@ -115,10 +147,19 @@ impl<M: Shortening> Draft<M> {
         ensures empty { result ≡ Ok true → self.new.body ≡ [] }
         ensures has { result ≡ Ok true → (from : M.Plain) → HasDraft M.Resting from front.now self.old → HasDraft M.Resting from front.now self.new }
     {
-        group_laws(); // for the proof alone
         if self.body.len() == 0 {
             return Ok(true);
         }
+        self.put_body(front)
+    }
+
+    /// Has the machine take the body back, and puts its group behind the others, also where there is no thing in it. `false` means
+    /// that it doesn't take it back.
+    fn put_body(&mut self, front: &LogFront) -> Result<bool, NoMemory>
+        ensures empty { result ≡ Ok true → self.new.body ≡ [] }
+        ensures has { result ≡ Ok true → (from : M.Plain) → HasDraft M.Resting from front.now self.old → HasDraft M.Resting from front.now self.new }
+    {
+        group_laws(); // for the proof alone
         if self.number == u64::MAX {
             return Ok(false);
         }

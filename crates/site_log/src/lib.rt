@@ -7,6 +7,7 @@ mod bodies;
 mod drafts;
 mod ends;
 mod files;
+mod firsts;
 mod loads;
 mod logged;
 mod makes;
@@ -19,6 +20,8 @@ mod shortens;
 mod texts;
 
 pub use ends::OpenEnd;
+pub use firsts::{FirstFound, read_first};
+pub use loads::read_all;
 pub use logged::{LONG, Logged};
 pub use opens::{FoundLog, NotOpened, OpenedLog, open_log};
 pub use reads::read_log;

@@ -25,7 +25,8 @@ pub(crate) fn load<K: BytewiseDisk>(alloc: Global, disk: &mut K) -> Result<Vec<u
     }
 }
 
-fn read_all<K: BytewiseDisk>(alloc: Global, disk: &mut K) -> Result<Vec<u8>, OpenEnd>
+/// Reads all bytes of a disk into memory. It syncs and writes nothing.
+pub fn read_all<K: BytewiseDisk>(alloc: Global, disk: &mut K) -> Result<Vec<u8>, OpenEnd>
     ensures bytes { K.honest disk.old → IfOk result (λ bytes. bytes.items ≡ K.reads disk.old) }
     ensures few { IfOk result (λ bytes. length bytes.items ≤ longest_disk) }
     ensures read { K.honest disk.old → WasRead K.Disk disk.old disk.new }

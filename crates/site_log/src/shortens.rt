@@ -59,7 +59,8 @@ impl<M: Shortening, K: BytewiseDisk> Logged<M, K> {
         if self.waiting.len() > 0 {
             return Shortened::NotLong;
         }
-        match draft_log(self.alloc, &self.machine, self.file.front()) {
+        let before = self.file.place();
+        match draft_log(self.alloc, &self.machine, self.file.front(), before) {
             Ok(Some(draft)) => self.take_over(&draft),
             Ok(None) => Shortened::NoShorter,
             Err(NoMemory) => Shortened::NoMemory,

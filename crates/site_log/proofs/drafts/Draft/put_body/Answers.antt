@@ -2,7 +2,7 @@ use Rattle.std.proofs.Common.{◌≡◌, ◌+◌, ◌++◌, ◌≤◌, List, ℕ
 use Rattle.log_text.specs.Texts.{entry}
 use Rattle.log_groups.specs.Items.{longest_body, group}
 use Rattle.site_log.proofs.Drafting.{has_more}
-use Rattle.site_log.proofs.drafts.Draft.end_group.Goals as goal
+use Rattle.site_log.proofs.drafts.Draft.put_body.Goals as goal
 
 pub returns-clause-has : goal.returns-clause-has
 returns-clause-has g c = λ is from has.
