@@ -58,6 +58,17 @@ pub const SETTLED: &str = "\
 0 16                                           07         settle => done
 ";
 
+/// A record waits for another one.
+pub const WAITS: &str = "\
+0 14010002000000020100020000000101016101000132 1300000000 deliver 2.2 => early 0
+";
+
+/// The other one comes, and nothing waited for it.
+pub const WAITED_NO_MORE: &str = "\
+0 14010002000000010100000000000001016101000131 11 deliver 2.1 => applied
+0 16                                           07 settle => done
+";
+
 /// Nothing waits.
 pub const NONE_WAITS: &str = "\
 0 16 07 settle => done

@@ -13,13 +13,16 @@ use crate::sites::keys;
 use crate::talks::{Talk, bytes_of, copied, put};
 use command_words::DaemonPlan;
 use disk_forms::{MemoryDisk, MemoryStore};
+use disk_store::Store;
 use hub::{Connection, Ports, Ready};
 use site_peers::{Failure, Peer};
 use std::alloc::Global;
 use std::process::Abort;
 use std::random::RandomSource;
 use tardis_io::MemorySink;
-use tardisd_main::{DaemonEnd, Doors, FileFault, FoundSite, GateFault, tardisd};
+use tardisd_main::{
+    CheckedLog, DaemonEnd, Doors, FileCheck, FileFault, FoundSite, GateFault, tardisd,
+};
 
 /// An edge of one connection. Its requests come one at a time, each once the reply to the one before it was taken.
 #[derive(Drop)]
@@ -268,6 +271,102 @@ fn a_torn_group_is_left_out_and_a_damaged_file_is_told(rt: HostRuntime) {
     *bytes.get_mut(0).expect(&rt, "a byte") = b'x';
     let (found, end) = found_in(&rt, rt.alloc(), bytes.as_slice());
     assert!(rt; found.is_none() && end == DaemonEnd::File(FileFault::NotALog));
+}
+
+/// How a check of a file of these bytes ends, whose disk is as it was then.
+fn checked(rt: &(impl Abort + RandomSource), alloc: Global, bytes: &[u8]) -> DaemonEnd {
+    let mut store = file_of(rt, alloc, bytes, &[]);
+    let end = checked_at(rt, alloc, "f", &mut store);
+    let disk = store.disk().expect(rt, "a disk");
+    assert!(rt; disk.bytes() == bytes);
+    end
+}
+
+/// How a check of the file at a path ends.
+fn checked_at(
+    rt: &(impl Abort + RandomSource),
+    alloc: Global,
+    path: &str,
+    store: &mut MemoryStore,
+) -> DaemonEnd {
+    let line = format!(in alloc; "--check --file {path}").expect(rt, "room");
+    let mut doors = OneDoor {
+        edge: None,
+        found: None,
+    };
+    let end = ended(rt, alloc, line.as_str(), &mut doors, store);
+    drop(doors);
+    end
+}
+
+/// What is told of a log.
+fn told_of(rt: &impl Abort, end: DaemonEnd) -> CheckedLog {
+    match end {
+        DaemonEnd::Checked(FileCheck::Log(log)) => log,
+        _ => panic!(rt; "a log"),
+    }
+}
+
+/// The lines of a file with three groups: of the site's life, and of two commits of one key. Its text has 49 bytes of the front, 36 of the
+/// first group, and 38 of each further one (`docs/FORMATS.md`, 'The items of a server's log').
+const CHECKED: &str = "\
+format 1
+site 1 of 1
+life 07070707070707070707070707070707
+limits states 16384 path 65000 sessions 256
+states known 3 kept 3
+leaves 1
+keys 1
+groups 3
+bytes text 161 file 4096
+end whole
+";
+
+/// What is told of the same file once one of its bytes is another: of the name, of the version, of the limits, and of each group but the
+/// last, which is told by the place where it begins.
+const SPOILED: [(usize, FileFault); 5] = [
+    (0, FileFault::NotALog),
+    (9, FileFault::OtherVersion(97)),
+    (20, FileFault::BadFront),
+    (70, FileFault::Damaged(49)),
+    (110, FileFault::Damaged(85)),
+];
+
+#[test]
+fn a_check_tells_what_a_file_has(rt: HostRuntime) {
+    let bytes = after(&rt, rt.alloc(), ALONE, &[TWO_COMMITS], b"");
+    let whole = told_of(&rt, checked(&rt, rt.alloc(), bytes.as_slice()));
+    let lines = format!(in rt.alloc(); "{whole}").expect(&rt, "room");
+    assert_eq!(rt; lines.as_str(), CHECKED);
+    let torn = with_byte(&rt, rt.alloc(), bytes.as_slice(), 160, 0);
+    let torn = told_of(&rt, checked(&rt, rt.alloc(), torn.as_slice()));
+    assert!(rt; torn.known == 2 && torn.groups == 2 && torn.is_torn && torn.bytes == 123);
+    for (place, fault) in SPOILED {
+        let spoiled = with_byte(&rt, rt.alloc(), bytes.as_slice(), place, b'a');
+        assert!(rt; checked(&rt, rt.alloc(), spoiled.as_slice()) == DaemonEnd::File(fault));
+    }
+}
+
+/// These bytes, of which the one at a place is another.
+fn with_byte(rt: &impl Abort, alloc: Global, bytes: &[u8], place: usize, byte: u8) -> Vec<u8> {
+    let mut other = copied(rt, alloc, bytes);
+    *other.get_mut(place).expect(rt, "a byte") = byte;
+    other
+}
+
+#[test]
+fn a_file_that_is_new_or_in_use_is_told(rt: HostRuntime) {
+    let new = DaemonEnd::Checked(FileCheck::New);
+    assert!(rt; checked(&rt, rt.alloc(), b"") == new);
+    assert!(rt; checked(&rt, rt.alloc(), &[0; 5000]) == new);
+    let mut store = file_of(&rt, rt.alloc(), b"", &[]);
+    let other = checked_at(&rt, rt.alloc(), "g", &mut store);
+    assert!(rt; other == DaemonEnd::File(FileFault::Refused));
+    let disk = store.open_file("f");
+    let held = checked_at(&rt, rt.alloc(), "f", &mut store);
+    assert!(rt; held == DaemonEnd::File(FileFault::InUse));
+    drop(disk);
+    drop(store);
 }
 
 /// What the log of a site alone says first under which one state may be kept, and what that of one under which 65,000 may.

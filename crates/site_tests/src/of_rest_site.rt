@@ -29,11 +29,11 @@ const BEHIND: &str = "\
 const OPENED: &str = "\
 1 0100           01000100000003               open => opened 1.3";
 
-/// What a site that opens takes back, and what it doesn't: a row; one of no state, one of a second site, and one whose last byte is
+/// What a site that opens takes back, and what it doesn't: a row; one of no states, one of a second site, and one whose last byte is
 /// wanting; a promise; a row behind it; and behind a row one of more states than there are numbers for.
 const TAKEN: [(&str, bool); 7] = [
     ("05000100000003", true),
-    ("05000100000000", false),
+    ("05000100000000", true),
     ("05000200000001", false),
     ("050001000000", false),
     ("0200010000000100000000000000000000", true),

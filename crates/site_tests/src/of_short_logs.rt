@@ -2,8 +2,8 @@
 
 use crate::collection_rows::{FORK_OF_THREE, GROWN_TOGETHER};
 use crate::disks::crashed;
-use crate::exchange_rows::{CONSENTS, TWO_RECORDS};
-use crate::file_rows::{COLLECTED, COMMITTED};
+use crate::exchange_rows::{CONSENTS, TWO_RECORDS, WAITED_NO_MORE, WAITS};
+use crate::file_rows::{COLLECTED, COMMITTED, KEYS_IN_TURN};
 use crate::floor_rows::{COLLECTED_CHAIN, RAISED_CHAIN};
 use crate::merge_rows::{BRANCHED, JOINED};
 use crate::sites::{LIMITS, keys};
@@ -177,47 +177,140 @@ fn a_log_is_told_shorter_while_its_site_goes_on(rt: HostRuntime) {
     assert!(rt; times >= 6);
 }
 
-/// The text of a log that was told shorter: the site committed some states, and collected most of them.
+#[test]
+fn a_log_of_more_keys_than_states_may_be_kept_is_told_shorter(rt: HostRuntime) {
+    let alloc = rt.alloc();
+    let keys = keys(&rt);
+    let limits = Limits {
+        max_kept: 2,
+        ..LIMITS
+    };
+    let disk = MemoryDisk::new(alloc, &[], ROOM, &[]).expect(&rt, "room");
+    let site = new_site(&rt, alloc, keys, limits);
+    let mut log = opened(alloc, site, disk, &limits).expect(&rt, "a log");
+    let mut still = new_site(&rt, alloc, keys, limits);
+    let mut out = ReplyBuf::new(alloc).expect(&rt, "room");
+    let talk = Talk::of(&rt, alloc, &[KEYS_IN_TURN]);
+    for row in talk.rows() {
+        assert!(rt; is_answered(&rt, &mut log, &mut still, row, &mut out));
+    }
+    assert!(rt; is_shortened(&rt, &mut log));
+    assert!(rt; starts_alike(&rt, alloc, keys, limits, log.close(), &mut still));
+}
+
+/// Asks a site with its log what these rows ask: whether it answers as they say.
+fn is_talked(rt: &impl Abort, alloc: Global, log: &mut Log, table: &str) -> bool {
+    let mut out = ReplyBuf::new(alloc).expect(rt, "room");
+    let talk = Talk::of(rt, alloc, &[table]);
+    for row in talk.rows() {
+        log.answer(row.actor, row.asked.as_slice(), &mut out)
+            .expect(rt, "room");
+        if out.bytes() != row.told.as_slice() {
+            return false;
+        }
+    }
+    log.settle_now().is_ok()
+}
+
+#[test]
+fn what_waits_is_gone_after_a_start(rt: HostRuntime) {
+    let alloc = rt.alloc();
+    let keys = keys(&rt);
+    let limits = Limits { sites: 2, ..LIMITS };
+    let disk = MemoryDisk::new(alloc, &[], ROOM, &[]).expect(&rt, "room");
+    let site = new_site(&rt, alloc, keys, limits);
+    let mut log = opened(alloc, site, disk, &limits).expect(&rt, "a log");
+    assert!(rt; is_talked(&rt, alloc, &mut log, WAITS));
+    let disk = crashed(&rt, log.close(), 0);
+    let site = new_site(&rt, alloc, keys, limits);
+    let mut again = opened(alloc, site, disk, &limits).expect(&rt, "a log");
+    assert!(rt; is_talked(&rt, alloc, &mut again, WAITED_NO_MORE));
+}
+
+/// What a site is asked, by actor 1: it writes this value to a key, and commits.
+fn write(rt: &impl Abort, alloc: Global, log: &mut Log, value: &[u8]) {
+    let mut asked = Vec::new(alloc);
+    put(rt, &mut asked, &[request_codes::PUT, 1, 97]);
+    put(rt, &mut asked, &(value.len() as u16).to_be_bytes());
+    put(rt, &mut asked, value);
+    let mut out = ReplyBuf::new(alloc).expect(rt, "room");
+    log.answer(1, &[request_codes::BEGIN, 0], &mut out)
+        .expect(rt, "room");
+    log.answer(1, asked.as_slice(), &mut out).expect(rt, "room");
+    log.answer(1, &[request_codes::COMMIT, 1, 0, 0], &mut out)
+        .expect(rt, "room");
+}
+
+/// The text of a log that was told shorter: a long value was written, and another one in its place, and all is collected that may be.
 fn short_text(rt: &impl Abort, alloc: Global, keys: RandomState) -> Vec<u8> {
     let disk = MemoryDisk::new(alloc, &[], ROOM, &[]).expect(rt, "room");
     let site = new_site(rt, alloc, keys, LIMITS);
     let mut log = opened(alloc, site, disk, &LIMITS).expect(rt, "a log");
-    let mut still = new_site(rt, alloc, keys, LIMITS);
     let mut out = ReplyBuf::new(alloc).expect(rt, "room");
-    let mut times = 0_u32;
-    let talk = Talk::of(rt, alloc, &[RAISED_CHAIN, COLLECTED_CHAIN]);
-    for row in talk.rows() {
-        assert!(rt; is_answered(rt, &mut log, &mut still, row, &mut out));
-        if is_shortened(rt, &mut log) {
-            times = times.saturating_add(1);
-        }
-        if times == 5 {
-            break;
-        }
-    }
-    assert!(rt; times == 5);
+    log.answer(1, &[request_codes::OPEN, 1], &mut out)
+        .expect(rt, "room");
+    write(rt, alloc, &mut log, &[118; 2_100]);
+    write(rt, alloc, &mut log, &[119]);
+    log.answer(0, &[request_codes::RAISE_AUTO], &mut out)
+        .expect(rt, "room");
+    log.answer(0, &[request_codes::TIDY, 0, 255], &mut out)
+        .expect(rt, "room");
+    assert!(rt; log.settle_now().is_ok());
+    assert!(rt; is_shortened(rt, &mut log));
     let disk = log.close();
     copied(rt, alloc, disk.bytes())
 }
 
-/// Whether a log on the disk is refused, or taken for one whose last group a crash tore.
-fn is_refused_or_torn(alloc: Global, site: RestSite, disk: MemoryDisk) -> bool {
+/// How many entries end in a log's text.
+fn entries_in(text: &[u8]) -> usize {
+    let mut ends = 0_usize;
+    for byte in text {
+        if *byte == 247 {
+            ends = ends.saturating_add(1);
+        }
+    }
+    ends
+}
+
+/// How many bytes of a log's text stand before its last entries, so many.
+fn before_last(text: &[u8], entries: usize) -> usize {
+    let mut left = entries_in(text).saturating_sub(entries);
+    for (place, byte) in text.iter().enumerate() {
+        if left == 0 {
+            return place;
+        }
+        if *byte == 247 {
+            left = left.saturating_sub(1);
+        }
+    }
+    text.len()
+}
+
+/// What comes of a log on the disk: whether it is refused, and else whether its end counts as torn.
+fn is_taken(alloc: Global, site: RestSite, disk: MemoryDisk) -> Option<bool> {
     match open_log(alloc, site, disk, &front_of(&LIMITS)) {
-        Ok(opened) => opened.found.is_torn,
-        Err(_) => true,
+        Ok(opened) => Some(opened.found.is_torn),
+        Err(_) => None,
     }
 }
 
+// Two groups without things stand behind a log that had 2 KiB: what is before them isn't taken for a torn end, whichever byte changed.
 #[test]
 fn each_byte_of_a_short_log_is_guarded(rt: HostRuntime) {
     let alloc = rt.alloc();
     let keys = keys(&rt);
     let mut text = short_text(&rt, alloc, keys);
+    let guarded = before_last(text.as_slice(), 2);
+    assert!(rt; guarded > 100 && guarded < text.len());
     for place in 0..text.len() {
-        text[place] ^= 1;
+        let byte = text[place];
+        text[place] = if place % 2 == 0 { 0 } else { byte ^ 1 };
         let disk = MemoryDisk::new(alloc, text.as_slice(), ROOM, &[]).expect(&rt, "room");
         let site = new_site(&rt, alloc, keys, LIMITS);
-        assert!(rt; is_refused_or_torn(alloc, site, disk));
-        text[place] ^= 1;
+        match is_taken(alloc, site, disk) {
+            None => {}
+            Some(is_torn) => assert!(rt; is_torn && place >= guarded),
+        }
+        text[place] = byte;
     }
 }
