@@ -52,7 +52,12 @@ class Life(NamedTuple):
     life: bytes
 
 
-Thing = Union[Record, Consent, Collection, Life]
+class Row(NamedTuple):
+    site: int
+    count: int  # type: ignore[assignment]
+
+
+Thing = Union[Record, Consent, Collection, Life, Row]
 
 
 class NoLog(Exception):
@@ -135,6 +140,8 @@ def thing_spelling(thing: Thing) -> bytes:
         return b"\2" + struct.pack(">HI", thing.site, thing.number) + id_spelling(thing.floor) + struct.pack(">I", thing.stated)
     if isinstance(thing, Life):
         return b"\4" + struct.pack(">H", thing.site) + thing.life
+    if isinstance(thing, Row):
+        return b"\5" + struct.pack(">HI", *thing)
     return b"\3" + struct.pack(">I", thing.count)
 
 
@@ -171,6 +178,8 @@ class Fields:
             return Collection(self.number(4))
         if kind == 4:
             return Life(self.number(2), self.take(LIFE))
+        if kind == 5:
+            return Row(self.number(2), self.number(4))
         raise ValueError("nothing that lasts has the kind %d" % kind)
 
 

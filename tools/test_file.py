@@ -14,6 +14,9 @@ the file is read here, byte by byte (`log_file.py`). It is seen that
 - a file opens that was begun under smaller limits, and keeps what it says first;
 - what is no log, or is damaged, or another site's, or of larger limits, is told by name and place, and is left byte for byte as it
   was; so is a file that another server holds;
+- `--check` tells what a file has, or by a start's words why it isn't good, and changes and makes nothing;
+- a copy that is taken while clients ask has all that was settled when it began, or is told as damaged behind that, and is good once it
+  is cut there;
 - a server whose file can't grow ends, and nothing that it told is lost.
 
 Clients ask by turns, and without waiting. Each wait has an end, and the whole run ends after fifteen minutes at the latest. Nothing is
@@ -431,6 +434,104 @@ def test_held(program, folder, data):
     print("a file that is held, and what is no file, were refused", flush=True)
 
 
+# checks
+
+def check(program, path):
+    """The status of a check of a file, what it told, and its line on standard error."""
+    done = subprocess.run([*program, "--check", "--file", path], stdin=subprocess.DEVNULL, stdout=subprocess.PIPE, stderr=subprocess.PIPE,
+                          timeout=PATIENCE)
+    return done.returncode, done.stdout.decode().splitlines(), done.stderr.decode()
+
+
+def is_good(program, path):
+    """A check of the file is well, and changes nothing: how many groups and bytes of text it tells, and whether the end is torn."""
+    before = bytes_of(path)
+    status, told, line = check(program, path)
+    assert status == 0 and not line and bytes_of(path) == before, (status, told, line)
+    facts = dict(fact.split(" ", 1) for fact in told)
+    text = re.fullmatch(r"text (\d+) file (\d+)", facts["bytes"])
+    assert int(text[2]) == len(before), told
+    return int(facts["groups"]), int(text[1]), facts["end"].startswith("torn")
+
+
+def test_checks(program, folder, data):
+    """What a check tells of good files, of others as a start tells of them, and of none."""
+    groups, reader = groups_of(data)
+    text = len(reader.text)
+    assert is_good(program, copy_of(folder, data)) == (len(groups), text, False)
+    for cut in text - 1, groups[-1][0] + 1:
+        assert is_good(program, copy_of(folder, data[:cut])) == (len(groups) - 1, groups[-1][0], True)
+    assert is_good(program, copy_of(folder, data[:groups[1][0]])) == (1, groups[1][0], False)
+    smaller = reader.front._replace(most_kept=1, most_pairs=1, most_sessions=1)
+    assert is_good(program, copy_of(folder, log_bytes(smaller, [body for _, body in groups])))[0] == len(groups)
+    for new in b"", bytes(5000):
+        path = copy_of(folder, new)
+        assert check(program, path) == (0, ["a new file: no log was begun"], "") and bytes_of(path) == new
+    middle = groups[1][0]
+    spoiled = [b"a text", bytes([data[0]]) + b"x" + data[2:], data[:12] + b"x" + data[13:], data[:middle] + b"\xf7" + data[middle:],
+               data[:text] + log_file.entry(log_file.group_item(reader.front.life, len(groups), b"\xf7")) + bytes(4096)]
+    for made in spoiled:
+        path = copy_of(folder, made)
+        started = ended(program, path)
+        status, told, line = check(program, path)
+        assert (status, line) == started and status == BAD_LOG and not told and bytes_of(path) == made, (status, line, started)
+    missing = os.path.join(folder, "missing")
+    status, told, line = check(program, missing)
+    assert status == DISK_FAULT and not told and line == "tardisd: %s: there is no such file: name one that is there\n" % missing, line
+    assert not os.path.exists(missing), "a check made a file"
+    server = Server(program, copy_of(folder, data)).listens()
+    try:
+        status, told, line = check(program, os.path.join(folder, "copy"))
+        assert status == DISK_FAULT and not told and "another server has the file" in line, line
+    finally:
+        server.kill()
+    for words in ["--check"], ["--check", "--file"], ["--check", "--file", path, "--tidy"], ["--check", "--check", "--file", path]:
+        done = subprocess.run([*program, *words], stdin=subprocess.DEVNULL, stdout=subprocess.PIPE, stderr=subprocess.PIPE, timeout=PATIENCE)
+        assert done.returncode == 1 and done.stderr.endswith(b", or tardisd --check --file PATH\n"), done
+    print("%d files were checked" % (len(spoiled) + 9), flush=True)
+
+
+def text_so_far(data):
+    """How many bytes of whole groups there are, whatever stands behind them."""
+    try:
+        return len(groups_of(data)[1].text)
+    except log_file.NoLog as fault:
+        return fault.place
+
+
+def test_copies(program, folder, choose, count):
+    """Copies that `cp` takes while clients ask: what was told by then is in each."""
+    history = History(os.path.join(folder, "copied"))
+    server = Server(program, history.path).listens()
+    damaged = torn = 0
+    try:
+        for number in range(count):
+            talkers = [Talker(server.address, transactions(history.told, choose, b"%d.%d" % (number, client), 200, True), history.told, False)
+                       for client in range(CLIENTS)]
+            enough = history.told.replies + choose.randrange(200, 2000)
+            let_talk(talkers, lambda: history.told.replies >= enough)
+            settled = text_so_far(bytes_of(history.path))
+            path = os.path.join(folder, "taken")
+            taking = subprocess.Popen(["cp", history.path, path])
+            let_talk(talkers, lambda: taking.poll() is not None)
+            assert taking.wait(PATIENCE) == 0
+            for talker in talkers:
+                talker.socket.close()
+            status, told, line = check(program, path)
+            if status != 0:
+                place = re.search(r"damaged at byte (\d+)", line)
+                assert status == BAD_LOG and place and int(place[1]) >= settled, (status, line, settled)
+                os.truncate(path, int(place[1]))
+                damaged += 1
+            groups, text, is_torn = is_good(program, path)
+            assert text >= settled and bytes_of(history.path).startswith(bytes_of(path)[:text]), "the copy has something else"
+            torn += is_torn
+            os.unlink(path)
+    finally:
+        server.kill()
+    print("%d copies were taken while clients asked: %d were torn, and %d cut" % (count, torn, damaged), flush=True)
+
+
 def limited(most):
     """What lets a process make files of at most so many bytes."""
     def limit():
@@ -482,6 +583,9 @@ def main():
         test_limits(program, folder, data)
         test_damage(program, folder, data, choose)
         test_held(program, folder, data)
+        if len(program) == 1:
+            test_checks(program, folder, data)
+            test_copies(program, folder, choose, max(5, kills // 10))
         test_kills(program, folder, kills, choose)
         if len(program) == 1:
             test_full_disk(program, folder, choose)
