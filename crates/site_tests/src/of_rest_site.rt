@@ -29,11 +29,19 @@ const BEHIND: &str = "\
 const OPENED: &str = "\
 1 0100           01000100000003               open => opened 1.3";
 
-/// What a site that opens takes back, and what it doesn't: a row; one of no states, one of a second site, and one whose last byte is
-/// wanting; a promise; a row behind it; and behind a row one of more states than there are numbers for.
-const TAKEN: [(&str, bool); 7] = [
+/// What a site that opens takes back, and what it doesn't: a row; one of no states behind a record, and below that another record or
+/// beside it; one of a second site, and one whose last byte is wanting; a promise; a row behind it; and behind a row one of more states
+/// than there are numbers for.
+const TAKEN: [(&str, bool); 8] = [
     ("05000100000003", true),
-    ("05000100000000", true),
+    (
+        "01000100000001010000000000000005000100000000010001000000020100010000000100",
+        true,
+    ),
+    (
+        "01000100000001010000000000000005000100000000010001000000020100000000000000",
+        false,
+    ),
     ("05000200000001", false),
     ("050001000000", false),
     ("0200010000000100000000000000000000", true),
