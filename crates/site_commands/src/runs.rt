@@ -10,12 +10,13 @@ use session_core::SiteCore;
 use site_run::run_site;
 use std::alloc::Global;
 use std::hash::RandomState;
+use std::mem;
 use tardis_base::{Limits, NoMemory};
 use tardis_io::{Sink, Source, Status};
 
 /// Answers frames of requests by frames of the replies of the site of this number, with these limits.
 ///
-/// Keys are found by hashing with this seed.
+/// Keys are found by hashing with this seed. The site's memory isn't given back piece by piece: a program that ran one ends then.
 pub fn run<I: Source, O: Sink>(
     alloc: Global,
     keys: RandomState,
@@ -35,7 +36,7 @@ pub fn run<I: Source, O: Sink>(
     match SiteCore::new(alloc, keys, limits, own) {
         Ok(mut site) => {
             let status = run_site(alloc, &mut site, input, output);
-            drop(site); // for the proof alone
+            mem::forget(site); // the program ends, and gives all memory back at once
             status
         }
         Err(NoMemory) => Status::NoMemory,
