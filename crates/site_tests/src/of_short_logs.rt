@@ -227,11 +227,11 @@ fn what_waits_is_gone_after_a_start(rt: HostRuntime) {
     assert!(rt; is_talked(&rt, alloc, &mut again, WAITED_NO_MORE));
 }
 
-/// What a site is asked, by actor 1: it writes this value to a key, and commits.
-fn write(rt: &impl Abort, alloc: Global, log: &mut Log, value: &[u8]) {
+/// What a site is asked, by actor 1: it writes this value, whose length has these bytes, to a key, and commits.
+fn write(rt: &impl Abort, alloc: Global, log: &mut Log, length: [u8; 2], value: &[u8]) {
     let mut asked = Vec::new(alloc);
     put(rt, &mut asked, &[request_codes::PUT, 1, 97]);
-    put(rt, &mut asked, &(value.len() as u16).to_be_bytes());
+    put(rt, &mut asked, &length);
     put(rt, &mut asked, value);
     let mut out = ReplyBuf::new(alloc).expect(rt, "room");
     log.answer(1, &[request_codes::BEGIN, 0], &mut out)
@@ -249,8 +249,8 @@ fn short_text(rt: &impl Abort, alloc: Global, keys: RandomState) -> Vec<u8> {
     let mut out = ReplyBuf::new(alloc).expect(rt, "room");
     log.answer(1, &[request_codes::OPEN, 1], &mut out)
         .expect(rt, "room");
-    write(rt, alloc, &mut log, &[118; 2_100]);
-    write(rt, alloc, &mut log, &[119]);
+    write(rt, alloc, &mut log, [8, 52], &[118; 2_100]);
+    write(rt, alloc, &mut log, [0, 1], &[119]);
     log.answer(0, &[request_codes::RAISE_AUTO], &mut out)
         .expect(rt, "room");
     log.answer(0, &[request_codes::TIDY, 0, 255], &mut out)
