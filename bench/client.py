@@ -22,11 +22,11 @@ def built(folder):
     return program
 
 
-def ask(client, process, words, fds=()):
+def ask(client, process, words, fds=(), patience=PATIENCE):
     """What the client tells of a server, by name: `rate`, `p50`, `p99`, `server`, `client` and `busy` (client.c)."""
     told = subprocess.run(
         [client, "-s", str(process.pid), *map(str, words)], pass_fds=fds, stdin=subprocess.DEVNULL, stdout=subprocess.PIPE,
-        timeout=PATIENCE, text=True)
+        timeout=patience, text=True)
     if told.returncode != 0:
         sys.exit("%s: the client ended with %d, asked %s" % (sys.argv[0], told.returncode, " ".join(map(str, words))))
     return {name: float(figure) for name, figure in (word.split("=") for word in told.stdout.split())}

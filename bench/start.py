@@ -21,11 +21,13 @@ import tempfile
 import threading
 import time
 
-from client import TOP, ask, built, ended
+from client import PATIENCE, TOP, ask, built, ended
 from serve import address
 
 RECORDS = [15_000, 100_000, 1_000_000]
 RUNS = 3
+# The fewest records a second that are waited for.
+SLOWEST = 2_000
 
 
 def started(program, folder, socket, *words):
@@ -112,7 +114,8 @@ def written(client, program, folder, socket, records, states):
     watch = Watch(socket, os.path.join(folder, "log"))
     try:
         watch.start()
-        rate = ask(client, process, ["-f", "-n", records, "tardis", "transactions", "together", "unix:" + socket])["rate"]
+        rate = ask(client, process, ["-f", "-n", records, "tardis", "transactions", "together", "unix:" + socket],
+                   patience=max(PATIENCE, records / SLOWEST))["rate"]
         # both stay connected until the server is killed
         _sessions = hold(socket, states) if states else ()
         watch.over.set()
