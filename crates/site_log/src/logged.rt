@@ -81,7 +81,8 @@ impl<M: Shortening, K: BytewiseDisk> Logged<M, K> {
 
     /// Puts what waits on the disk, as one group: after a crash all of it is there, or none. From the moment at which this
     /// answers `Ok`, all that lasted so far is in every image. Where the log has become long, it is told shorter then
-    /// (`shorten_beyond`): first beyond `LONG` bytes, and then each time once it is twice as long as it was left.
+    /// (`shorten_beyond`): first beyond `LONG` bytes, and then each time once it is twice as long as it was left, or, where no
+    /// shorter one was found, once it has grown by a quarter, by `LONG` bytes at least.
     pub fn settle_now(&mut self) -> Result<(), Failed>
         ensures settled { OnOk result ((kept : Kept M.Plain) (marks : List Mark) → Stands M.Resting K.Disk self.old kept marks
             → Stands M.Resting K.Disk self.new (with_settle kept) (record { moment = K.moment self.new.file.disk; count = length kept.things } ∷ marks)) }

@@ -96,8 +96,7 @@ impl<M: Shortening, K: BytewiseDisk> Logged<M, K> {
         }
     }
 
-    /// Tells the log shorter, where it has become long. However that ends, it is tried again once the text is twice as long as it is
-    /// then.
+    /// Tells the log shorter, where it has become long, and says when that is tried again (`next_length`).
     pub(crate) fn shorten_now(&mut self) -> Result<(), Failed>
         requires open { self.old.file.failed ≡ false }
         ensures stands { (kept : Kept M.Plain) (marks : List Mark) → Stands M.Resting K.Disk self.old kept marks → Stands M.Resting K.Disk self.new kept marks }
@@ -113,10 +112,19 @@ impl<M: Shortening, K: BytewiseDisk> Logged<M, K> {
         match self.shorten_beyond(self.long) {
             Shortened::NotLong => Ok(()),
             Shortened::Failed => Err(Failed),
-            _ => {
-                self.long = LONG.max(self.file.place().saturating_mul(2));
+            told => {
+                self.long = next_length(told, self.file.place());
                 Ok(())
             }
         }
+    }
+}
+
+/// Beyond which length a log is told shorter next, where this came of it and it has so many bytes now: once it is twice as long; and
+/// where no shorter one was found, once it has grown by a quarter, for a later moment may have one. `LONG` bytes pass at least.
+fn next_length(told: Shortened, place: u64) -> u64 {
+    match told {
+        Shortened::NoShorter => place.saturating_add(LONG.max(place / 4)),
+        _ => LONG.max(place.saturating_mul(2)),
     }
 }
