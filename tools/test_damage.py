@@ -1,12 +1,13 @@
 #!/usr/bin/env python3
 """Damages the file of `tardisd --file` again and again, and looks at what `tardisd --check` and a start make of it.
 
-usage: tools/test_damage.py [TARDISD [MINUTES [SEED]]]
+usage: tools/test_damage.py [TARDISD [MINUTES | each [SEED]]]
 
 The program is the one that the last build left, unless another is named; it goes on for five minutes, unless told otherwise. The file is
 that of a site that has made 400,000 states and told its log shorter. One byte is changed to another one: each of the first and of the last
 2,000 bytes of the text, those at the ends of groups, and then bytes that chance chooses (SEED), until the time is over; or up to 8,192
-bytes in a row become zeros. It is seen that
+bytes in a row become zeros. With `each` every byte of the text is changed once, one after another, which takes some minutes more. It is
+seen that
 
 - damage that begins before the last thing that lasts is told with the place at which its group begins, and damage in the front is told;
 - none but damage in the groups without things that stand at the end is taken for a torn end, by which nothing is lost;
@@ -125,9 +126,12 @@ class Damage:
             self.put(place, self.data[place:place + len(new)])
 
 
-def places_of(damage, choose):
+def places_of(damage, choose, each):
     """Which bytes are changed, one after another."""
     text = damage.text
+    if each:
+        yield from range(text)
+        return
     yield from range(min(EACH_END, text))
     yield from range(max(EACH_END, text - EACH_END), text)
     for start in choose.sample(damage.groups, min(len(damage.groups), 500)):
@@ -136,17 +140,18 @@ def places_of(damage, choose):
         yield choose.randrange(text)
 
 
-def new_bytes(damage, choose, place):
+def new_bytes(damage, choose, place, each):
     """What stands at the place then: one other byte, or zeros."""
     old = damage.data[place]
-    if choose.randrange(4) == 0:
+    if not each and choose.randrange(4) == 0:
         return bytes(min(choose.randint(1, LONGEST_GAP), damage.text - place))
     return bytes([choose.choice([other for other in (0, 0xF5, 0xF6, 0xF7, old ^ 1, choose.randrange(256)) if other != old])])
 
 
 def main():
     program = os.path.abspath(sys.argv[1] if len(sys.argv) > 1 else os.path.join(TOP, "crates", "tardisd", "out", "tardisd"))
-    minutes = float(sys.argv[2]) if len(sys.argv) > 2 else 5
+    each = sys.argv[2:3] == ["each"]
+    minutes = 60 if each else float(sys.argv[2]) if len(sys.argv) > 2 else 5
     seed = int(sys.argv[3]) if len(sys.argv) > 3 else random.randrange(1 << 32)
     choose = random.Random(seed)
     end = time.monotonic() + 60 * minutes
@@ -161,10 +166,10 @@ def main():
         assert damage.rows and damage.text < length // 4, "the log wasn't told shorter"
         print("%d bytes of log were told shorter, in %d bytes and %d groups, with %d rows" % (length, damage.text, len(damage.groups), damage.rows),
               flush=True)
-        for number, place in enumerate(places_of(damage, choose)):
+        for number, place in enumerate(places_of(damage, choose, each)):
             if time.monotonic() > end:
                 break
-            damage.at(place, new_bytes(damage, choose, place), number % 50 == 0)
+            damage.at(place, new_bytes(damage, choose, place, each), number % 50 == 0)
         assert check(program, path) == damage.good, "the file isn't as it was"
     print("%d places were damaged: %d times damage was told, %d times a torn end, %d times by a start too; seed %d" % (
         damage.told + damage.torn, damage.told, damage.torn, damage.starts, seed), flush=True)
