@@ -10,7 +10,7 @@ use Rattle.fork_path.specs.Pairs.{are_ascending_pairs, has_pair}
 use Rattle.state_dag.specs.declared.nodes.Node.{Node}
 use Rattle.state_dag.specs.Table.{Entry, Table, arrive_in_order}
 use Rattle.state_dag.specs.Views.{entry_of, entries_in, slot_or, slot_of_id}
-use Rattle.state_dag.specs.Grown.{is_slot_among, is_first_branch, grown_length, only_if, IsGrownEntry, AreGrownEntries}
+use Rattle.state_dag.specs.Grown.{is_slot_among, is_first_branch, grown_length, only_if, KeepsPlaces, IsGrownEntry, AreGrownEntries}
 use Rattle.state_dag.specs.Nodes.{AreDistinct, IsGrownNode}
 use Rattle.state_dag.proofs.Following.{Follow, LosesLeaf}
 use Rattle.state_dag.proofs.KeptEntries.{placed, entries-first}
@@ -100,6 +100,7 @@ pub record Became (table : Table) (parents : List Slot) (x : StateId) (slot : Sl
   pub other : is_slot_among old.slot parents ≡ false → new.children ≡ old.children
   pub apart : is_slot_among old.slot parents ≡ false → new.stand_ins ≡ old.stand_ins
   pub slots : (test : Slot → Bool) → IsTrue (list_all test old.stand_ins) → IsTrue (test slot) → IsTrue (list_all test new.stand_ins)
+  pub places : KeepsPlaces old.stand_ins new.stand_ins
 
 and-true : (b : Bool) → (b && true) ≡ b
 and-true true = refl
@@ -120,6 +121,7 @@ module _ (table : Table) (parents : List Slot) (x : StateId) (slot : Slot) where
     other = h.other;
     apart = h.apart;
     slots = h.slots;
+    places = h.places;
   }
 
   pub loses-leaf : (o n : Entry) → Became table parents x slot o n → LosesLeaf parents o n

@@ -1,8 +1,8 @@
 -- What the calls read off the memory.
 use Rattle.std.proofs.Common.{◌≡◌, ℕ, ◌+◌, ◌-◌, ◌<◌, ◌≤◌, Bool, true, false, cond, List, [], ◌∷◌, ◌++◌, length, map, get_or, slice_get, Option, Some, None}
-use Rattle.std.proofs.Common.{is_some, IsTrue, IfSome, inl, inr, refl, sym, ap, subst, ◌∙◌, arith, length-append}
+use Rattle.std.proofs.Common.{find, eqb, is_some, IsTrue, IfSome, inl, inr, refl, sym, ap, subst, ◌∙◌, arith, length-append}
 use Rattle.std.specs.Option.{option_map, option_map_or, option_and_then}
-use Rattle.std.proofs.lemmas.Bool.{and_parts, and_from, cases_Bool, cond-true, cond-false, both_ways, false_from_ne_true}
+use Rattle.std.proofs.lemmas.Bool.{and_parts, and_from, or_parts, cases_Bool, cond-true, cond-false, both_ways, false_from_ne_true, eqb-true}
 use Rattle.std.proofs.lemmas.Option.{none-some, same_Some}
 use Rattle.std.proofs.lemmas.List.{length-map}
 use Rattle.std.proofs.lemmas.List.FromFn.{get_or-map-range_with_len}
@@ -13,7 +13,7 @@ use Rattle.tardis_base.specs.Ids.{root, same_id, is_among}
 use Rattle.plain_dag.specs.States.{count_of_site}
 use Rattle.plain_dag.specs.Begin.{last_arrived}
 use Rattle.plain_dag.specs.Collection.{is_kept, kept_states}
-use Rattle.plain_dag.proofs.Ids.{same_id-true}
+use Rattle.plain_dag.proofs.Ids.{same_id-true, same_id_self}
 use Rattle.state_dag.specs.declared.StateDag.TheInside.{Inside}
 use Rattle.state_dag.specs.Table.{Entry, Table, entry_at, id_at, is_slot, arrive_in_order, is_kept_at, arrival_at}
 use Rattle.state_dag.specs.Views.{entry_of, slot_or, slot_of_id}
@@ -95,6 +95,26 @@ pub searched-names : (table : Table) (x : StateId) (o : Option Slot) → AreFoun
     IfSome o (λ slot. id_at table slot ≡ Some x)
 searched-names table x None found e = tt
 searched-names table x (Some s) found e = searched-at table x table.entries s found (sym e)
+
+-- where no id is there twice, the slot with the id is found
+missing-none : (x : StateId) (es : List Entry) → is_among x (map (λ e. e.id) es) ≡ false → ◌≡◌ {A = Option Slot} (slot_of_id es x) None
+missing-none x [] out = refl
+missing-none x (e ∷ es) out =
+    let parts = or_parts (same_id x e.id) (is_among x (map (λ f. f.id) es)) out in
+    rw (missing-none x es parts.1) (cond-false (same_id x e.id) (Some e.slot) None parts.0)
+
+pub searched-only : (x : StateId) (es : List Entry) (s : Slot) → AllDiffer (map (λ e. e.id) es) →
+    option_map (λ e. e.id) (find (λ e. eqb e.slot.0 s.0) es) ≡ Some x → slot_of_id es x ≡ Some s
+searched-only x [] s differ named = absurd (none-some x named)
+searched-only x (e ∷ es) s differ named = elim (cases_Bool (eqb e.slot.0 s.0)) [
+  | inl t ↦
+      let is : e.id ≡ x = same_Some e.id x (rw t at named) in
+      let out = subst (λ z. is_among z (map (λ f. f.id) es) ≡ false) is differ.0 in
+      let slot : ℕ → Slot = λ n. record { 0 = n } in
+      rw (missing-none x es out) (cond-true (same_id x e.id) (Some e.slot) None (subst (λ z. same_id x z ≡ true) (sym is) (same_id_self x))
+      ∙ ap (λ n. Some (slot n)) (eqb-true e.slot.0 s.0 t))
+  | inr f ↦ rw (searched-only x es s differ.1 (rw f at named)) refl
+]
 
 pub searched-is_kept : (table : Table) (x : StateId) (o : Option Slot) → AreFound table table.entries → IsTrue (arrive_in_order table.entries) →
     o ≡ slot_of_id table.entries x → IfSome o (λ slot. IsTrue (is_kept_at table slot))

@@ -169,6 +169,7 @@ module _ (table : Table) (parents slots : List Slot) (gains : List Gain) (is : g
     other = h.other;
     apart = h.apart;
     slots = h.slots;
+    places = h.places;
   }
     where
       or-turn : (a b : Bool) → (a || b) ≡ (b || a)

@@ -1,16 +1,17 @@
 -- What slots name when entries have grown and one more came last.
-use Rattle.std.proofs.Common.{◌≡◌, ℕ, ◌<◌, true, false, cond, refl, ltb, eqb, List, [], ◌∷◌, ◌++◌, find, Option, Some, None, is_some, IsTrue, sym, ap, subst}
-use Rattle.std.proofs.Common.{◌∙◌, arith}
+use Rattle.std.proofs.Common.{◌≡◌, ℕ, ◌<◌, true, false, cond, refl, ltb, eqb, List, [], ◌∷◌, ◌++◌, map, find, slice_get, Option, Some, None, is_some, IsTrue, sym}
+use Rattle.std.proofs.Common.{ap, subst, ◌∙◌, arith}
 use Rattle.std.specs.List.{list_all}
 use Rattle.std.specs.Option.{option_map, option_map_or}
 use Rattle.std.proofs.lemmas.Bool.{and_parts, and_from, both_ways, false_from_ne_true, cond-true, cond-false, eq-eqb, eqb-true, ltb-true}
 use Rattle.std.proofs.lemmas.Option.{none-some, same_Some}
 use Rattle.tardis_base.specs.declared.ids.StateId.{StateId}
 use Rattle.tardis_base.specs.declared.ids.Slot.{Slot}
-use Rattle.state_dag.specs.Table.{Entry, Table, entry_at, id_at, is_slot, arrive_in_order, is_kept_at, arrival_at}
-use Rattle.state_dag.specs.Answers.{IsNewSlot, KeepsSlots}
+use Rattle.state_dag.specs.Table.{Entry, Table, entry_at, id_at, is_slot, arrive_in_order, is_kept_at, arrival_at, child_slots_at}
+use Rattle.state_dag.specs.Grown.{is_slot_among, only_if, KeepsPlaces}
+use Rattle.state_dag.specs.Answers.{IsNewSlot, KeepsSlots, GivesChild}
 use Rattle.state_dag.proofs.Following.{Follow}
-use Rattle.state_dag.proofs.GrownSlots.{or_else, find-after}
+use Rattle.state_dag.proofs.GrownSlots.{or_else, find-after, found-slot}
 use Rattle.state_dag.proofs.KeptEntries.{all-found}
 use Rattle.state_dag.proofs.Became.{Became, FoundBoth, follow-found}
 
@@ -107,3 +108,33 @@ module _ (old new table : Table) (parents : List Slot) (x : StateId) (slot : Slo
       let before = ltb-true o.0.arrival known (all-found (λ m. ltb m.arrival known) old.entries s.0 o.0 o.1 all) in
       let last = ap (λ p. option_map_or (λ (g : Entry). g.arrival) p 0) last-found in
       omega arith
+
+  -- what became of the parents and children of the states
+  abbrev child_slots_of : Option Entry → List Slot
+  child_slots_of o = option_map_or (λ g. g.stand_ins) o []
+
+  places-keep : (s : Slot) → KeepsPlaces (child_slots_at old s) (child_slots_at new s)
+  places-keep s = go (entry_at old s) refl
+    where
+      go : (o : Option Entry) → entry_at old s ≡ o → KeepsPlaces (child_slots_of o) (child_slots_at new s)
+      go None is = λ i c there. absurd (none-some c there)
+      go (Some o) is = λ i c there.
+          let w = stays-found s o is in
+          subst (λ p. slice_get (child_slots_of p) i ≡ Some c) (sym w.1) (w.2.places i c there)
+
+  pub gives-child : (told : Table) → old ≡ told → map (λ p. Some p) e.parents ≡ map (id_at told) parents → e.stand_ins ≡ [] → GivesChild told new parents slot
+  gives-child told same has none = subst (λ t. GivesChild t new parents slot) same (record {
+    has_parents = ap (λ o. option_map (map (λ (p : StateId). Some p)) (option_map (λ (g : Entry). g.parents) o)) last-found ∙ ap (λ z. Some z) (has ∙ ap (λ t. map (id_at t) parents) (sym same));
+    childless = ap child_slots_of last-found ∙ none;
+    parents_stay = λ s there.
+        let o = some-entry (entry_at old s) there in
+        let w = stays-found s o.0 o.1 in
+        ap (option_map (λ (g : Entry). g.parents)) w.1 ∙ ap (λ z. Some z) w.2.parents_stay ∙ sym (ap (option_map (λ (g : Entry). g.parents)) o.1);
+    places = places-keep;
+    last = λ distinct s there.
+        let o = some-entry (entry_at old s) there in
+        let w = stays-found s o.0 o.1 in
+        ap child_slots_of w.1 ∙ (w.2.child distinct).1
+        ∙ ap (λ k. o.0.stand_ins ++ only_if (is_slot_among (record { 0 = k }) parents) slot) (found-slot s.0 old.entries o.0 o.1)
+        ∙ ap (λ p. child_slots_of p ++ only_if (is_slot_among s parents) slot) (sym o.1);
+  })

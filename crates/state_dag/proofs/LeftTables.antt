@@ -22,10 +22,11 @@ use Rattle.plain_dag.proofs.Ids.{not-both, among-first, among-later, among-cases
 use Rattle.plain_dag.proofs.Order.{ancestors-arrive-earlier}
 use Rattle.plain_dag.proofs.States.{child_arrives_later}
 use Rattle.plain_dag.proofs.Joining.{hands-over}
-use Rattle.state_dag.specs.Table.{Entry, Table, entry_at, id_at, is_slot, arrive_in_order, is_kept_at, arrival_at, is_slot_above}
+use Rattle.state_dag.specs.Table.{Entry, Table, entry_at, id_at, is_slot, arrive_in_order, is_kept_at, arrival_at, is_slot_above, parents_at, child_slots_at}
 use Rattle.state_dag.specs.Stands.{is_taken, Shows, Stands}
 use Rattle.state_dag.specs.Nodes.{AreDistinct}
 use Rattle.state_dag.specs.Detached.{shared_slot, without_slot, passed_on}
+use Rattle.state_dag.specs.Answers.{LeavesChildren}
 use Rattle.state_dag.proofs.Places.{AllDiffer}
 use Rattle.state_dag.proofs.Known.{kept-differ}
 use Rattle.state_dag.proofs.Following.{Follow}
@@ -137,6 +138,25 @@ module _ (old new : Table) (gone heir : Slot) (before behind : List Entry) (g : 
       go None (Some q) b = absurd (b)
       go (Some p) None b = absurd (b)
       go (Some p) (Some q) b = ap (λ z. Some z) b.id_stays
+
+  pub parents-other : (s : Slot) → eqb s.0 gone.0 ≡ false → parents_at new s ≡ parents_at old s
+  parents-other s other = go (entry_at old s) (entry_at new s) (both-found s other)
+    where
+      go : (p q : Option Entry) → FoundBoth (Left gone heir fork g) p q → option_map (λ e. e.parents) q ≡ option_map (λ e. e.parents) p
+      go None None b = refl
+      go None (Some q) b = absurd (b)
+      go (Some p) None b = absurd (b)
+      go (Some p) (Some q) b = ap (λ z. Some z) b.parents_stay
+
+  pub children-other : (s : Slot) → eqb s.0 gone.0 ≡ false → child_slots_at new s ≡ map (passed_on gone heir) (child_slots_at old s)
+  children-other s other = go (entry_at old s) (entry_at new s) (both-found s other)
+    where
+      go : (p q : Option Entry) → FoundBoth (Left gone heir fork g) p q →
+          option_map_or (λ e. e.stand_ins) q [] ≡ map (passed_on gone heir) (option_map_or (λ e. e.stand_ins) p [])
+      go None None b = refl
+      go None (Some q) b = absurd (b)
+      go (Some p) None b = absurd (b)
+      go (Some p) (Some q) b = b.stand_ins
 
   pub slot-other : (s : Slot) → eqb s.0 gone.0 ≡ false → is_slot new s ≡ is_slot old s
   slot-other s other = go (entry_at old s) (entry_at new s) (both-found s other)
@@ -456,6 +476,12 @@ module _ (old new : Table) (gone heir : Slot) (h : HasLeft old new gone heir) wh
 
   pub left-others : (s : Slot) → (s ≡ gone → ⊥) → is_slot new s ≡ is_slot old s
   left-others s other = slot-other old new gone heir h.before h.behind h.g h.fork h.was h.at h.distinct h.follows s (slots-differ s gone other)
+
+  pub left-children : LeavesChildren old new gone heir
+  left-children = record {
+    parents_stay = λ s other. parents-other old new gone heir h.before h.behind h.g h.fork h.was h.at h.distinct h.follows s (slots-differ s gone other);
+    children = λ s other. children-other old new gone heir h.before h.behind h.g h.fork h.was h.at h.distinct h.follows s (slots-differ s gone other);
+  }
 
   pub left-kept : (s : Slot) → (s ≡ gone → ⊥) → is_kept_at new s ≡ is_kept_at old s
   left-kept s other = kept-other old new gone heir h.before h.behind h.g h.fork h.was h.at h.distinct h.follows h.up h.shares h.later s

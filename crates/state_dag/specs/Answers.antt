@@ -1,5 +1,5 @@
 -- What the calls of a table answer.
-use Rattle.std.specs.Prelude.{◌≡◌, ◌≤◌, ◌==◌, List, [], ◌∷◌, map, Option, Some, None, Result, Ok, Err, IsTrue, IsFalse, slice_get, if◌then◌else◌}
+use Rattle.std.specs.Prelude.{◌≡◌, ◌≤◌, ◌==◌, List, [], ◌∷◌, ◌++◌, map, Option, Some, None, Result, Ok, Err, IsTrue, IsFalse, slice_get, if◌then◌else◌}
 use Rattle.std.specs.Option.{option_map}
 use Rattle.tardis_base.specs.declared.ids.StateId.{StateId}
 use Rattle.tardis_base.specs.declared.ids.Slot.{Slot}
@@ -11,7 +11,10 @@ use Rattle.tardis_base.specs.Ids.{same_id, is_among}
 use Rattle.plain_dag.specs.Above.{is_above}
 use Rattle.plain_dag.specs.Dag.{IsNext}
 use Rattle.plain_dag.specs.Growth.{growth_refusal}
-use Rattle.state_dag.specs.Table.{Entry, Table, id_at}
+use Rattle.state_dag.specs.Table.{Entry, Table, id_at, is_slot, parents_at, child_slots_at}
+use Rattle.state_dag.specs.Grown.{is_slot_among, only_if, KeepsPlaces}
+use Rattle.state_dag.specs.Nodes.{AreDistinct}
+use Rattle.state_dag.specs.Detached.{passed_on}
 use Rattle.state_dag.specs.Stands.{Stands}
 
 -- the record may be added: it is the next, of one of the table's sites, with the states at these slots as parents, and no
@@ -37,6 +40,22 @@ IsNewSlot old new x slot = (id_at old slot ≡ None) × (id_at new slot ≡ Some
 -- every slot that named a kept state still names it
 abbrev pub KeepsSlots : Table → Table → Type 0
 KeepsSlots old new = (slot : Slot) (x : StateId) → id_at old slot ≡ Some x → id_at new slot ≡ Some x
+
+-- the state at the new slot has those at these slots as its parents, and no child; each other keeps its parents, and its
+-- children in their places; and where no parent is named twice, each has the new one as its last child, and no other state
+-- has one more
+pub record GivesChild (old new : Table) (parents : List Slot) (slot : Slot) : Type 0 where
+  pub has_parents : option_map (map (λ p. Some p)) (parents_at new slot) ≡ Some (map (id_at old) parents)
+  pub childless : child_slots_at new slot ≡ []
+  pub parents_stay : (s : Slot) → IsTrue (is_slot old s) → parents_at new s ≡ parents_at old s
+  pub places : (s : Slot) → KeepsPlaces (child_slots_at old s) (child_slots_at new s)
+  pub last : AreDistinct parents → (s : Slot) → IsTrue (is_slot old s) → child_slots_at new s ≡ child_slots_at old s ++ only_if (is_slot_among s parents) slot
+
+-- each state but the one that goes keeps its parents, and its children, of which those that stood where that one was stand
+-- where the heir is
+pub record LeavesChildren (old new : Table) (gone heir : Slot) : Type 0 where
+  pub parents_stay : (s : Slot) → (s ≡ gone → ⊥) → parents_at new s ≡ parents_at old s
+  pub children : (s : Slot) → (s ≡ gone → ⊥) → child_slots_at new s ≡ map (passed_on gone heir) (child_slots_at old s)
 
 -- of these states the one behind the other, or the first where there is no other; none at the end
 abbrev pub next_of : List StateId → Option StateId → Option StateId

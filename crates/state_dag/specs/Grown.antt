@@ -71,6 +71,10 @@ refusal_of table x parents pairs =
 abbrev pub only_if : {A : Type 0} → Bool → A → List A
 only_if test a = if test then a ∷ [] else []
 
+-- the other list has the same in each place that the one has
+abbrev pub KeepsPlaces : List Slot → List Slot → Type 0
+KeepsPlaces old new = (i : ℕ) (s : Slot) → slice_get old i ≡ Some s → slice_get new i ≡ Some s
+
 -- what became of an entry: a parent has the new state as its last child, and first branches lead where they lead
 pub record IsGrownEntry (table : Table) (parents : List Slot) (x : StateId) (slot : Slot) (old new : Entry) : Type 0 where
   pub slot_stays : new.slot ≡ old.slot

@@ -15,7 +15,7 @@ use Rattle.state_dag.specs.declared.nodes.Node.{Node}
 use Rattle.state_dag.specs.declared.leads.Gain.{Gain}
 use Rattle.state_dag.specs.Table.{Table, entry_at, id_at, is_entry_above}
 use Rattle.state_dag.specs.Views.{entry_of, entries_from}
-use Rattle.state_dag.specs.Grown.{path_at, leads_first, is_slot_among, is_first_branch, only_if, too_long}
+use Rattle.state_dag.specs.Grown.{path_at, leads_first, is_slot_among, is_first_branch, only_if, too_long, KeepsPlaces}
 
 -- a table with these nodes and nothing else
 abbrev pub table_of : List Node → Table
@@ -164,6 +164,7 @@ pub record HasGrown (gains : List Gain) (parents : List Slot) (x : StateId) (slo
   pub other : is_slot_among (record { 0 = place }) parents ≡ false → new.children.items ≡ old.children.items
   pub apart : is_slot_among (record { 0 = place }) parents ≡ false → new.stand_ins.items ≡ old.stand_ins.items
   pub slots : (test : Slot → Bool) → IsTrue (list_all test old.stand_ins.items) → IsTrue (test slot) → IsTrue (list_all test new.stand_ins.items)
+  pub places : KeepsPlaces old.stand_ins.items new.stand_ins.items
 
 -- what became of the node at this place below a table that grew
 pub record IsGrownNode (table : Table) (parents : List Slot) (x : StateId) (slot : Slot) (place : ℕ) (old new : Node) : Type 0 where
@@ -178,3 +179,4 @@ pub record IsGrownNode (table : Table) (parents : List Slot) (x : StateId) (slot
   pub other : is_slot_among (record { 0 = place }) parents ≡ false → new.children.items ≡ old.children.items
   pub apart : is_slot_among (record { 0 = place }) parents ≡ false → new.stand_ins.items ≡ old.stand_ins.items
   pub slots : (test : Slot → Bool) → IsTrue (list_all test old.stand_ins.items) → IsTrue (test slot) → IsTrue (list_all test new.stand_ins.items)
+  pub places : KeepsPlaces old.stand_ins.items new.stand_ins.items

@@ -1,6 +1,6 @@
 -- What the table of states keeps.
-use Rattle.std.specs.Prelude.{ℕ, Bool, true, false, ◌==◌, ◌&&◌, List, [], ◌∷◌, find, Option, is_some, nat_le, nat_lt, map}
-use Rattle.std.specs.Option.{option_map, option_map_or}
+use Rattle.std.specs.Prelude.{ℕ, Bool, true, false, ◌==◌, ◌&&◌, List, [], ◌∷◌, find, Option, Some, None, is_some, nat_le, nat_lt, map}
+use Rattle.std.specs.Option.{option_map, option_map_or, option_and_then}
 use Rattle.tardis_base.specs.declared.ids.StateId.{StateId}
 use Rattle.tardis_base.specs.declared.ids.Slot.{Slot}
 use Rattle.tardis_base.specs.declared.records.Limits.{Limits}
@@ -36,6 +36,24 @@ id_at table slot = option_map (λ e. e.id) (entry_at table slot)
 -- a state is kept at the slot
 abbrev pub is_slot : Table → Slot → Bool
 is_slot table slot = is_some (entry_at table slot)
+
+-- the parents of the state at the slot, where one is kept there
+abbrev pub parents_at : Table → Slot → Option (List StateId)
+parents_at table slot = option_map (λ e. e.parents) (entry_at table slot)
+
+-- the only one of these
+abbrev pub only_of : List StateId → Option StateId
+only_of [] = None
+only_of (x ∷ []) = Some x
+only_of (x ∷ y ∷ ys) = None
+
+-- the parent of the state at the slot, where it has exactly one
+abbrev pub only_parent_at : Table → Slot → Option StateId
+only_parent_at table slot = option_and_then only_of (parents_at table slot)
+
+-- the slots in which the children of the state at the slot stand
+abbrev pub child_slots_at : Table → Slot → List Slot
+child_slots_at table slot = option_map_or (λ e. e.stand_ins) (entry_at table slot) []
 
 -- a state of this id is kept in the table
 abbrev pub is_listed : Table → StateId → Bool

@@ -6,7 +6,7 @@ ghost use Rattle.std.specs.List.{list_all};
 ghost use Rattle.smallvec.specs.SmallVec.{HasRoomFor};
 ghost use Rattle.tardis_base.specs.declared.ids.Slot.{Slot};
 ghost use Rattle.state_dag.specs.declared.nodes.Node.{Node};
-ghost use Rattle.state_dag.specs.Grown.{is_slot_among};
+ghost use Rattle.state_dag.specs.Grown.{is_slot_among, KeepsPlaces};
 ghost use Rattle.state_dag.specs.Nodes.{are_places, have_places, with_node, AreDistinct, HasPathRoom, HasChildRoom, HasGained, HasChild, HasGrown};
 
 use crate::leads::Gain;
@@ -65,6 +65,8 @@ fn add_children(nodes: &mut Vec<Node>, parents: &[Slot], id: StateId, slot: Slot
     ensures slots { (test : Slot → Bool) (k : ℕ) (d : Node) → k < length nodes.old.items
         → IsTrue (list_all test (slice_index_or nodes.old.items k d).stand_ins.items) → IsTrue (test slot)
         → IsTrue (list_all test (slice_index_or nodes.new.items k d).stand_ins.items) }
+    ensures places { (k : ℕ) (d : Node) → k < length nodes.old.items
+        → KeepsPlaces (slice_index_or nodes.old.items k d).stand_ins.items (slice_index_or nodes.new.items k d).stand_ins.items }
 {
     for parent in parents {
         add_child(&mut nodes[parent.0 as usize], id, slot);
@@ -79,6 +81,7 @@ fn add_child(node: &mut Node, id: StateId, slot: Slot)
     ensures longer { length node.old.children.items ≤ length node.new.children.items }
     ensures slots { (test : Slot → Bool) → IsTrue (list_all test node.old.stand_ins.items) → IsTrue (test slot)
         → IsTrue (list_all test node.new.stand_ins.items) }
+    ensures places { KeepsPlaces node.old.stand_ins.items node.new.stand_ins.items }
 {
     let _ = node.children.push(id);
     let _ = node.stand_ins.push(slot);

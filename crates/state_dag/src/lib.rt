@@ -16,12 +16,12 @@ ghost use Rattle.plain_dag.specs.Forks.{leaves};
 ghost use Rattle.plain_dag.specs.Begin.{last_arrived};
 ghost use Rattle.plain_dag.specs.Collection.{is_kept, kept_states, stand_in};
 ghost use Rattle.plain_dag.specs.Paths.{fork_path};
-ghost use Rattle.state_dag.specs.Table.{Entry, entry_at, id_at, is_slot, is_kept_at, arrival_at, is_slot_above};
+ghost use Rattle.state_dag.specs.Table.{Entry, entry_at, id_at, is_slot, is_kept_at, arrival_at, is_slot_above, only_parent_at};
 ghost use Rattle.state_dag.specs.Views.{entry_of};
 ghost use Rattle.state_dag.specs.Stands.{Stands};
 ghost use Rattle.state_dag.specs.Shared.{shared_stand_in};
 ghost use Rattle.state_dag.specs.Detached.{shared_slot, without_slot};
-ghost use Rattle.state_dag.specs.Answers.{MayBeAdded, AddedTo, IsNewSlot, KeepsSlots, next_of, slot_after};
+ghost use Rattle.state_dag.specs.Answers.{MayBeAdded, AddedTo, IsNewSlot, KeepsSlots, GivesChild, LeavesChildren, next_of, slot_after};
 
 mod changes;
 mod collection;
@@ -46,7 +46,7 @@ use id_slots::IdSlots;
 pub use images::EntryParts;
 use leads::gains;
 use named_paths::named_path;
-use nodes::{Node, first_from, is_node_above, node_at, root_node};
+use nodes::{Node, first_from, is_node_above, node_at, only_parent, root_node};
 use rooms::make_state_room;
 pub use rows::RowFault;
 use slot_order::SlotOrder;
@@ -139,6 +139,7 @@ impl StateDag {
         ensures arrived { IfOk result (λ slot. IsTrue (is_kept_at self.new slot) × (arrival_at self.new slot ≡ self.old.known)) }
         ensures newest { IfOk result (λ slot. (s : Slot) → IsTrue (is_kept_at self.old s) → arrival_at self.new s < arrival_at self.new slot) }
         ensures others { IfOk result (λ slot. (s : Slot) → (s ≡ slot → ⊥) → IsTrue (is_slot self.new s) → IsTrue (is_slot self.old s)) }
+        ensures child { IfOk result (λ slot. GivesChild self.old self.new parents.now slot) }
         ensures limits { self.new.limits ≡ self.old.limits }
         ensures same { OnErr result (self.new ≡ self.old) }
     {
@@ -200,6 +201,7 @@ impl StateDag {
         ensures arrivals { (s : Slot) → (s ≡ slot → ⊥) → arrival_at self.new s ≡ arrival_at self.old s }
         ensures stays { IsTrue (is_kept_at self.new result) }
         ensures slots { map (λ e. e.slot) self.new.entries ≡ without_slot slot (map (λ e. e.slot) self.old.entries) }
+        ensures children { LeavesChildren self.old self.new slot result }
         ensures limits { self.new.limits ≡ self.old.limits }
         ensures counts { self.new.counts ≡ self.old.counts }
         ensures known { self.new.known ≡ self.old.known }
@@ -245,6 +247,7 @@ impl StateDag {
     pub fn slot_of(&self, id: StateId) -> Option<Slot>
         ensures unlisted { result ≡ None → is_among id (map (λ e. e.id) self.now.entries) ≡ false }
         ensures found { IfSome result (λ slot. id_at self.now slot ≡ Some id) }
+        ensures only { (s : Slot) → id_at self.now s ≡ Some id → result ≡ Some s }
         ensures kept { IfSome result (λ slot. IsTrue (is_kept_at self.now slot)) }
         ensures none { result ≡ None → (rs : List Record) (ks : List StateId) → Stands self.now rs ks → is_kept rs ks id ≡ false }
     {
@@ -412,6 +415,14 @@ impl StateDag {
         ensures { (rs : List Record) (ks : List StateId) → Stands self.now rs ks → (x : StateId) → id_at self.now slot ≡ Some x → result.now ≡ parents_of rs x }
     {
         self.node(slot).parents.as_slice()
+    }
+
+    /// The parent of the state at the slot, where it has exactly one, in constant time.
+    pub fn only_parent(&self, slot: Slot) -> Option<StateId>
+        requires { IsTrue (is_slot self.now slot) }
+        ensures { result ≡ only_parent_at self.now slot }
+    {
+        only_parent(self.node(slot))
     }
 
     /// The slot of the kept state that arrived next after the one at this slot, or first of all; None at the end. The cost

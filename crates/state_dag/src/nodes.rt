@@ -6,7 +6,7 @@ ghost use Rattle.tardis_base.specs.declared.ids.Slot.{Slot};
 ghost use Rattle.tardis_base.specs.Ids.{root};
 ghost use Rattle.std.specs.Option.{option_copied, option_map};
 ghost use Rattle.state_dag.specs.Nodes.{table_of};
-ghost use Rattle.state_dag.specs.Table.{entry_at, arrival_at, is_entry_above};
+ghost use Rattle.state_dag.specs.Table.{entry_at, arrival_at, is_entry_above, only_of};
 ghost use Rattle.state_dag.specs.Views.{entry_of};
 
 use fork_path::ForkPath;
@@ -49,6 +49,16 @@ pub fn node_at(nodes: &[Node], slot: Slot) -> Option<&Node>
     ensures { option_map (entry_of slot.0) (option_copied result) ≡ entry_at (table_of nodes.now) slot }
 {
     nodes.get(slot.0 as usize)
+}
+
+/// The only parent of the node's state.
+pub fn only_parent(node: &Node) -> Option<StateId>
+    ensures { result ≡ only_of node.now.parents.items }
+{
+    match node.parents.as_slice() {
+        [only] => Some(*only),
+        _ => None,
+    }
 }
 
 /// How many states had arrived before that of the node in the place of the slot. 0 where there is no node.

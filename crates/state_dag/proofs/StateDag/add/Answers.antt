@@ -27,7 +27,7 @@ use Rattle.state_dag.proofs.LongPaths.{short-told, long-told, own-told, nothing-
 use Rattle.state_dag.proofs.Added.{full, added, parents-differ}
 use Rattle.state_dag.proofs.SameEntries.{same-count, sum-within}
 use Rattle.state_dag.proofs.NextSlot.{IsNext, next-slot}
-use Rattle.state_dag.proofs.LastSlots.{slots-kept, slot-was, last-named, kept-stays, last-arrives, arrives-last}
+use Rattle.state_dag.proofs.LastSlots.{slots-kept, slot-was, last-named, kept-stays, last-arrives, arrives-last, gives-child}
 use Rattle.state_dag.proofs.GrownTables.{distinct-from_differ, refused-alike, table-grown}
 use Rattle.state_dag.proofs.HeldNext.{early-entries, among-passes, view-same, held-stays, entries-after, slot-fresh, held-next}
 use Rattle.state_dag.proofs.AddSteps.{parents-placed, short-kept, gains-seen, none-seen, long-seen, entry-seen, gains-at_places, few-gains, all-grown}
@@ -540,6 +540,12 @@ returns-clause-others c =
     (slot-was (seen c.self.inside) (seen (inside-next c)) (seen c.self.inside) c.args.parents.now c.args.id c.next_slot-slot.result
     (entries_in c.grow.new.nodes.items (kept_of c.self.inside)) (entry_of c.next_slot-slot.result.0 c.in_ok-node.node) (follows c)
     (entries-next c) refl (is-fresh c))
+
+pub returns-clause-child : goal.returns-clause-child
+returns-clause-child c =
+    gives-child (seen c.self.inside) (seen (inside-next c)) (seen c.self.inside) c.args.parents.now c.args.id c.next_slot-slot.result
+    (entries_in c.grow.new.nodes.items (kept_of c.self.inside)) (entry_of c.next_slot-slot.result.0 c.in_ok-node.node) (follows c)
+    (entries-next c) refl (is-fresh c) c.args.self.now c.self.view_is (new-entry c).has_parents (new-entry c).no_stand_ins
 
 -- a table that has grown by the state of a record
 added-as : (old new : Table) (rs : List Record) (ks : List StateId) (r : Record) (parents : List Slot) → Stands old rs ks → MayBeAdded old rs ks r parents

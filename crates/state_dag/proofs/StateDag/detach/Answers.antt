@@ -21,7 +21,7 @@ use Rattle.state_dag.proofs.Memory.{kept-placed, kept-long, kept-now, kept-slots
 use Rattle.state_dag.proofs.Calls.{slots-ascend}
 use Rattle.state_dag.proofs.AddSteps.{leaves-in_order}
 use Rattle.state_dag.proofs.LeftTables.{HasLeft, left-detached, left-above, left-shared, left-gone, left-names, left-others, left-kept, left-arrives}
-use Rattle.state_dag.proofs.LeftTables.{left-stays, left-slots, heir-first, slot-read, common-passes}
+use Rattle.state_dag.proofs.LeftTables.{left-stays, left-slots, left-children, heir-first, slot-read, common-passes}
 use Rattle.state_dag.proofs.LeftSlots.{Parted, parted}
 use Rattle.state_dag.proofs.LeftMemory.{was, followed, heir-kept, held-left, unchanged-before}
 use Rattle.state_dag.proofs.StateDag.detach.Goals as goal
@@ -264,6 +264,9 @@ returns-clause-stays c = left-stays c.args.self.now (seen (inside-left c)) c.arg
 
 pub returns-clause-slots : goal.returns-clause-slots
 returns-clause-slots c = left-slots c.args.self.now (seen (inside-left c)) c.args.slot c.first_slot-heir.result (has-left-now c)
+
+pub returns-clause-children : goal.returns-clause-children
+returns-clause-children c = left-children c.args.self.now (seen (inside-left c)) c.args.slot c.first_slot-heir.result (has-left-now c)
 
 pub returns-clause-above : goal.returns-clause-above
 returns-clause-above c = left-above c.args.self.now (seen (inside-left c)) c.args.slot c.first_slot-heir.result (has-left-now c)

@@ -1,7 +1,7 @@
-use Rattle.std.proofs.Common.{◌≡◌, ◌∙◌, true, ap, subst}
-use Rattle.state_dag.specs.Table.{Table, arrive_in_order}
-use Rattle.state_dag.specs.Views.{slot_of_id}
-use Rattle.state_dag.proofs.Calls.{entries-found, searched-names, searched-is_kept, searched-unlisted, searched-none}
+use Rattle.std.proofs.Common.{◌≡◌, ◌∙◌, true, map, ap, subst}
+use Rattle.state_dag.specs.Table.{Entry, Table, arrive_in_order}
+use Rattle.state_dag.specs.Views.{slot_of_id, AllDiffer}
+use Rattle.state_dag.proofs.Calls.{entries-found, searched-names, searched-only, searched-is_kept, searched-unlisted, searched-none}
 use Rattle.state_dag.proofs.StateDag.slot_of.Goals as goal
 
 searched : (c : goal.After-get) → c.get.result ≡ slot_of_id c.args.self.now.entries c.args.id
@@ -21,3 +21,8 @@ returns-clause-unlisted c = λ none. searched-unlisted c.args.self.now c.args.id
 
 pub returns-clause-none : goal.returns-clause-none
 returns-clause-none c = λ none rs ks stands. searched-none c.args.self.now rs ks c.args.id c.get.result stands (searched c) none
+
+pub returns-clause-only : goal.returns-clause-only
+returns-clause-only c = λ s named.
+    searched c ∙ searched-only c.args.id c.args.self.now.entries s
+    (subst (λ (t : Table). AllDiffer (map (λ (e : Entry). e.id) t.entries)) c.self.view_is c.self.invariant.once) named

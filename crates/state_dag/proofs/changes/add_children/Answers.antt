@@ -1,12 +1,12 @@
 use Rattle.std.proofs.Common.{◌≡◌, ◌∙◌, ◌<◌, ◌≤◌, ◌+◌, ◌++◌, ◌∷◌, [], ℕ, false, IsTrue, inl, inr, eqb, length, take, get_or, refl, sym, ap, subst, eq-eqb}
-use Rattle.std.proofs.Common.{length-append, arith}
+use Rattle.std.proofs.Common.{length-append, arith, slice_get, Some}
 use Rattle.std.specs.List.{list_all}
 use Rattle.std.proofs.lemmas.Bool.{cases_Bool}
 use Rattle.std.proofs.lemmas.List.{length-set, get_or-set_other}
 use Rattle.std.proofs.lemmas.List.Folds.{list_any_at}
 use Rattle.tardis_base.specs.declared.ids.Slot.{Slot}
 use Rattle.state_dag.specs.declared.nodes.Node.{Node}
-use Rattle.state_dag.specs.Grown.{is_slot_among}
+use Rattle.state_dag.specs.Grown.{is_slot_among, KeepsPlaces}
 use Rattle.state_dag.specs.Nodes.{AreDistinct, HasChild, TakesChild}
 use Rattle.state_dag.proofs.NodeLists.{at-set, place-within}
 use Rattle.state_dag.proofs.NodeRooms.{read-at, among-before}
@@ -90,4 +90,11 @@ loop-parent-preserved c =
           made.slots test (subst (λ (m : Node). IsTrue (list_all test m.stand_ins.items)) (sym same)
           (c.loop-parent.invariant.slots test k d (omega arith) all own)) own)
           (λ ne. c.loop-parent.invariant.slots test k d (omega arith) all own);
+      places = λ k d lt.
+          let so_far = c.loop-parent.invariant.places k d (omega arith) in
+          at-set (λ (m : Node). KeepsPlaces (get_or first k d).stand_ins.items m.stand_ins.items) nodes p new k d here
+          (λ e.
+          let same = read-at nodes p old new here c.index_mut.ensures.value k d e in
+          λ j s is. made.places j s (subst (λ (m : Node). slice_get m.stand_ins.items j ≡ Some s) (sym same) (so_far j s is)))
+          (λ ne. so_far);
     }

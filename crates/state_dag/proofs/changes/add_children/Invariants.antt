@@ -2,7 +2,7 @@ use Rattle.std.proofs.Common.{◌≡◌, ◌<◌, ◌≤◌, ℕ, Bool, false, I
 use Rattle.std.specs.List.{list_all}
 use Rattle.tardis_base.specs.declared.ids.Slot.{Slot}
 use Rattle.state_dag.specs.declared.nodes.Node.{Node}
-use Rattle.state_dag.specs.Grown.{is_slot_among}
+use Rattle.state_dag.specs.Grown.{is_slot_among, KeepsPlaces}
 use Rattle.state_dag.specs.Nodes.{AreDistinct, HasChild}
 use Rattle.state_dag.proofs.changes.add_children.Given as goal
 
@@ -24,4 +24,6 @@ invariant-loop-parent l = record {
       1 ≤ length (get_or l.nodes.items k d).children.items;
   slots : (test : Slot → Bool) (k : ℕ) (d : Node) → k < length l.nodes.items → IsTrue (list_all test (get_or l.fn.nodes.items k d).stand_ins.items) →
       IsTrue (test l.slot) → IsTrue (list_all test (get_or l.nodes.items k d).stand_ins.items);
+  places : (k : ℕ) (d : Node) → k < length l.nodes.items →
+      KeepsPlaces (get_or l.fn.nodes.items k d).stand_ins.items (get_or l.nodes.items k d).stand_ins.items;
 }

@@ -3,7 +3,7 @@ use Rattle.std.specs.List.{list_all}
 use Rattle.tardis_base.specs.declared.ids.Slot.{Slot}
 use Rattle.fork_path.specs.Pairs.{Pairs, are_ascending_pairs, has_pair}
 use Rattle.state_dag.specs.declared.nodes.Node.{Node}
-use Rattle.state_dag.specs.Grown.{is_slot_among, only_if}
+use Rattle.state_dag.specs.Grown.{is_slot_among, only_if, KeepsPlaces}
 use Rattle.state_dag.proofs.changes.grow.Goals as goal
 
 pub returns-clause-each : goal.returns-clause-each
@@ -42,4 +42,6 @@ returns-clause-each c = λ k d lt.
       slots = λ test all own.
           c.add_children.ensures.slots test k d (omega arith)
           (subst (λ (ss : List Slot). IsTrue (list_all test ss)) (sym (ap (λ (n : Node). n.stand_ins.items) gained.rest)) all) own;
+      places = subst (λ (ss : List Slot). KeepsPlaces ss new.stand_ins.items) (ap (λ (n : Node). n.stand_ins.items) gained.rest)
+          (c.add_children.ensures.places k d (omega arith));
     }
