@@ -69,7 +69,7 @@ pub grows : (old new : Table) (rs : List Record) (ks : List StateId) (r : Record
 grows old new rs ks r parents slot stands may none g = record {
   dag = next-is-dag rs r stands.dag may.next;
   known_collected = λ x gone. known-stays rs r x (stands.known_collected x gone);
-  shared = shared-next rs r stands.dag may.next ks stands.shared stands.known_collected (λ p m. may.kept p p m (above-reflexive rs p));
+  shared = shared-next rs r stands.dag may.next ks stands.shared stands.known_collected (λ p m. may.kept p m);
   valid = subst (λ l. IsTrue (are_limits l)) (sym g.limits) stands.valid;
   sites = subst (λ l. IsTrue (list_all (λ q. nat_le q.id.site l.sites) (r ∷ rs))) (sym g.limits)
       (and_from (nat_le r.id.site old.limits.sites) (list_all (λ q. nat_le q.id.site old.limits.sites) rs) (le-leb r.id.site old.limits.sites may.site)

@@ -10,20 +10,20 @@ use Rattle.tardis_base.specs.declared.ids.Slot.{Slot}
 use Rattle.tardis_base.specs.declared.records.Record.{Record}
 use Rattle.tardis_base.specs.Ids.{same_id, is_among}
 use Rattle.fork_path.specs.Pairs.{has_pair}
-use Rattle.plain_dag.specs.States.{children}
+use Rattle.plain_dag.specs.States.{children, is_known}
 use Rattle.plain_dag.specs.Above.{is_above, are_comparable, are_apart}
 use Rattle.plain_dag.specs.Collection.{stand_in}
 use Rattle.plain_dag.specs.Paths.{leads_to}
 use Rattle.plain_dag.proofs.Ids.{same_test, not-both, same_id-true, same_id_from, among-first, among-later, any-from}
 use Rattle.plain_dag.proofs.Order.{above-reflexive, apart-means-incomparable}
-use Rattle.plain_dag.proofs.States.{parent_is_above}
-use Rattle.plain_dag.proofs.StandIns.{kept-stands-for-itself}
+use Rattle.plain_dag.proofs.States.{child_is_known}
+use Rattle.plain_dag.proofs.StandIns.{stands-in-well}
 use Rattle.state_dag.specs.Table.{Entry, Table, id_at, is_slot_above}
 use Rattle.state_dag.specs.Stands.{is_taken, Stands}
 use Rattle.state_dag.specs.Grown.{path_at, number_of_children, first_child, is_slot_among, leads_first}
 use Rattle.state_dag.proofs.Places.{AllDiffer}
 use Rattle.state_dag.proofs.Known.{kept-differ}
-use Rattle.state_dag.proofs.Standing.{found-is_named, entry-of_id, shown, slots-tell}
+use Rattle.state_dag.proofs.Standing.{found-is_named, entry-of_id, shown, slot-is_kept, slots-tell}
 use Rattle.state_dag.proofs.Counting.{Differ}
 
 pub slot_from : (a b : Slot) → a.0 ≡ b.0 → a ≡ b
@@ -78,31 +78,30 @@ module _ (table : Table) (rs : List Record) (ks : List StateId) (stands : Stands
       let w = entry-of_id table slot x named in
       ap (λ o. has_pair pair (option_map_or (λ (e : Entry). e.path) o [])) w.1 ∙ (shown table rs ks stands slot w.0 x w.1 named).has_path pair
 
-  -- where a state's children are kept, its first stand-in is its first child's slot
+  -- the stand-in of a state's first child is above the kept states that the child is above
   first-above : (t : Slot) (y : StateId) → id_at table t ≡ Some y → (ss : List Slot) (cs : List StateId) → map (id_at table) ss
       ≡ map (λ c. Some (stand_in rs ks c)) cs →
-      ((c : StateId) → IsTrue (is_among c cs) → IsFalse (is_among c ks)) →
+      ((c : StateId) → IsTrue (is_among c cs) → IsTrue (is_known rs c)) →
       option_map_or (λ s. is_slot_above table s t) (slice_get ss 0) false ≡ option_map_or (λ c. is_above rs c y) (slice_get cs 0) false
-  first-above t y named [] [] same kept = refl
-  first-above t y named [] (c ∷ cs) same kept = absurd (let bad : ⊥ = cc in bad)
-  first-above t y named (s ∷ ss) [] same kept = absurd (let bad : ⊥ = cc in bad)
-  first-above t y named (s ∷ ss) (c ∷ cs) same kept =
+  first-above t y named [] [] same known = refl
+  first-above t y named [] (c ∷ cs) same known = absurd (let bad : ⊥ = cc in bad)
+  first-above t y named (s ∷ ss) [] same known = absurd (let bad : ⊥ = cc in bad)
+  first-above t y named (s ∷ ss) (c ∷ cs) same known =
       let here : id_at table s ≡ Some (stand_in rs ks c) = cc in
-      let itself = kept-stands-for-itself ks rs c (kept c (among-first c cs)) in
-      slots-tell table rs ks stands s t c y (here ∙ ap (λ z. Some z) itself) named
+      slots-tell table rs ks stands s t (stand_in rs ks c) y here named
+      ∙ sym ((stands-in-well rs ks stands.dag stands.shared).tells c y (known c (among-first c cs)) (slot-is_kept table rs ks stands t y named))
 
-  -- whether the only child of a state with kept children leads somewhere
+  -- whether the only child of a state leads somewhere
   pub leads-first-is : (s t : Slot) (p y : StateId) → id_at table s ≡ Some p → id_at table t ≡ Some y →
-      ((x : StateId) → IsTrue (is_above rs p x) → IsFalse (is_among x ks)) →
       leads_first table t s ≡ (eqb (length (children rs p)) 1 && leads_to rs y (p, 0))
-  leads-first-is s t p y named_s named_t kept =
+  leads-first-is s t p y named_s named_t =
       let w = entry-of_id table s p named_s in
       let shows = shown table rs ks stands s w.0 p w.1 named_s in
       ap (λ n. eqb n 1 && option_map_or (λ c. is_slot_above table c t) (first_child table s) false) (children-at s p named_s)
       ∙ (ap (λ o. eqb (length (children rs p)) 1 && option_map_or (λ c. is_slot_above table c t)
       (option_and_then (λ (e : Entry). slice_get e.stand_ins 0) o) false) w.1
       ∙ ap (λ b. eqb (length (children rs p)) 1 && b) (first-above t y named_t w.0.stand_ins (children rs p) shows.has_stand_ins
-      (λ c m. kept c (parent_is_above rs stands.dag p c m))))
+      (λ c m. child_is_known rs p c m)))
 
   -- ===== Lists of slots
 

@@ -81,8 +81,7 @@ module _ (table : Table) (rs : List Record) (ks : List StateId) (r : Record) (pa
             | inl u ↦
                 let e : p ≡ q = same_id-true p q u in
                 let leads : leads_first table t s ≡ (eqb (length (children rs p)) 1 && leads_to rs y (p, 0)) =
-                leads-first-is table rs ks stands s t p y (here ∙ ap (λ z. Some z) (sym e)) named
-                (λ x above. may.kept q x m (subst (λ z. IsTrue (is_above rs z x)) e above)) in
+                leads-first-is table rs ks stands s t p y (here ∙ ap (λ z. Some z) (sym e)) named in
                 ap (λ b. (b && eqb pair.1 0) && leads_first table t s) u ∙ (ap (λ b. eqb pair.1 0 && b) leads ∙ sym (ap (λ b. b && rest) u))
             | inr f ↦ ap (λ b. (b && eqb pair.1 0) && leads_first table t s) f ∙ sym (ap (λ b. b && rest) f)
           ]

@@ -8,7 +8,6 @@ use Rattle.tardis_base.specs.declared.faults.AddFault.{AddFault}
 use Rattle.tardis_base.specs.declared.faults.AddFault.TheVariants.{Full, PathFull, NoMemory}
 use Rattle.tardis_base.specs.declared.replies.Refusal.TheVariants.{Full as IsFull, PathFull as IsPathFull}
 use Rattle.tardis_base.specs.Ids.{same_id, is_among}
-use Rattle.plain_dag.specs.Above.{is_above}
 use Rattle.plain_dag.specs.Dag.{IsNext}
 use Rattle.plain_dag.specs.Growth.{growth_refusal}
 use Rattle.state_dag.specs.Table.{Entry, Table, id_at, is_slot, parents_at, child_slots_at}
@@ -18,12 +17,12 @@ use Rattle.state_dag.specs.Detached.{passed_on}
 use Rattle.state_dag.specs.Stands.{Stands}
 
 -- the record may be added: it is the next, of one of the table's sites, with the states at these slots as parents, and no
--- state at or below a parent is collected
+-- parent is collected
 pub record MayBeAdded (table : Table) (rs : List Record) (ks : List StateId) (r : Record) (parents : List Slot) : Type 0 where
   pub next : IsNext rs r
   pub site : r.id.site ≤ table.limits.sites
   pub slots : map (id_at table) parents ≡ map (λ p. Some p) r.parents
-  pub kept : (p x : StateId) → IsTrue (is_among p r.parents) → IsTrue (is_above rs p x) → IsFalse (is_among x ks)
+  pub kept : (p : StateId) → IsTrue (is_among p r.parents) → IsFalse (is_among p ks)
 
 -- the record was added, or refused as the history refuses it, or there was no memory; where it wasn't added the table is
 -- as before
