@@ -11,7 +11,6 @@ use Rattle.tardis_base.specs.declared.replies.Refusal.TheVariants.{Full as IsFul
 use Rattle.tardis_base.specs.Ids.{is_among}
 use Rattle.tardis_base.specs.Keys.{KeyWrite, write_of}
 use Rattle.plain_dag.specs.States.{is_known}
-use Rattle.plain_dag.specs.Above.{is_above}
 use Rattle.plain_dag.specs.Writers.{read}
 use Rattle.plain_dag.specs.Collection.{stand_in}
 use Rattle.plain_dag.specs.Dag.{IsNext}
@@ -34,11 +33,11 @@ pub record IsSameStore (old new : Store) : Type 0 where
   pub versions : (k : List ℕ) → versions_of new.versions k ≡ versions_of old.versions k
   pub listed : listed_keys new.versions ≡ listed_keys old.versions
 
--- the record may arrive, at one of the sites, and no state at or below one of its parents is collected
+-- the record may arrive, at one of the sites, and none of its parents is collected
 pub record MayArrive (sites : ℕ) (rs : List Record) (ks : List StateId) (r : Record) : Type 0 where
   pub next : IsNext rs r
   pub site : r.id.site ≤ sites
-  pub kept : (p x : StateId) → IsTrue (is_among p r.parents) → IsTrue (is_above rs p x) → IsFalse (is_among x ks)
+  pub kept : (p : StateId) → IsTrue (is_among p r.parents) → IsFalse (is_among p ks)
 
 -- no other state stands in where x does
 abbrev pub StandsAlone : List Record → List StateId → StateId → Type 0
