@@ -198,7 +198,7 @@ module _ (site : Site) (sound : IsSound site) where
   joined-arrives parents writes joins more = record {
     next = own-next site parents writes sound joins more;
     site = (own-is_site site sound).1;
-    kept = λ p y among above. below-open p (joins.free p among) y above;
+    kept = λ p among. below-open p (joins.free p among) p (above-reflexive site.dag p);
   }
 
 module _ (site : Site) (sound : IsSound site) (n : ℕ) (t : SingleTxn) (found : entry_of n site.txns ≡ Some (Single t)) where

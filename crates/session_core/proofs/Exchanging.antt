@@ -187,7 +187,7 @@ fit-arrives site r sound valid e =
     record {
       next = is_welcome.next;
       site = is_welcome.of_a_site;
-      kept = λ p x among above. below-open site sound p (unfound-at (is_closed site.dag site.floors) r.parents p is_welcome.free among) x above;
+      kept = λ p among. below-open site sound p (unfound-at (is_closed site.dag site.floors) r.parents p is_welcome.free among) p (above-reflexive site.dag p);
     }
 
 -- so it may be added below the slots of its parents

@@ -133,7 +133,7 @@ module _ (site : Site) (r : Record) where
     welcome-arrives = record {
       next = is_welcome.next;
       site = is_welcome.of_a_site;
-      kept = λ p x among above. below-open site sound p (unfound-at (is_closed site.dag site.floors) r.parents p is_welcome.free among) x above;
+      kept = λ p among. below-open site sound p (unfound-at (is_closed site.dag site.floors) r.parents p is_welcome.free among) p (above-reflexive site.dag p);
     }
 
     grows-soundly : grown ≡ None → IsSound (with_record r site)

@@ -25,10 +25,10 @@ use Rattle.state_dag.proofs.Known.{kept-newest}
 use Rattle.state_dag.proofs.NextState.{children-next, newest-is_childless, stand_in-stays, shared-next}
 use Rattle.session_laws.proofs.Alike.{IsHistory, AreAlike, kept-there, long-path-alike}
 
--- the record may arrive, and no state at or below one of its parents is collected
+-- the record may arrive, and none of its parents is collected
 pub record Arrives (rs : List Record) (ks : List StateId) (r : Record) : Type 0 where
   pub next : IsNext rs r
-  pub free : (p x : StateId) → IsTrue (is_among p r.parents) → IsTrue (is_above rs p x) → IsFalse (is_among x ks)
+  pub free : (p : StateId) → IsTrue (is_among p r.parents) → IsFalse (is_among p ks)
 
 module _ (rs : List Record) (ks : List StateId) (r : Record) (history : IsHistory rs ks) (arrives : Arrives rs ks r) where
   -- the new state isn't collected
@@ -39,14 +39,14 @@ module _ (rs : List Record) (ks : List StateId) (r : Record) (history : IsHistor
   pub parent-is_kept : (p : StateId) → IsTrue (is_among p r.parents) → IsTrue (is_kept rs ks p)
   parent-is_kept p m =
       and_from (is_known rs p) (not (is_among p ks)) (parent-is-known rs r p (next-fits rs r arrives.next) m)
-      (not_from_false (is_among p ks) (arrives.free p p m (above-reflexive rs p)))
+      (not_from_false (is_among p ks) (arrives.free p m))
 
   -- with it there is a history again
   pub grown-history : IsHistory (r ∷ rs) ks
   grown-history = record {
     dag = next-is-dag rs r history.dag arrives.next;
     known_collected = λ x m. known-stays rs r x (history.known_collected x m);
-    shared = shared-next rs r history.dag arrives.next ks history.shared history.known_collected (λ p m. arrives.free p p m (above-reflexive rs p));
+    shared = shared-next rs r history.dag arrives.next ks history.shared history.known_collected (λ p m. arrives.free p m);
   }
 
   -- a kept state is the new one, or was kept before
