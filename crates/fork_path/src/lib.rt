@@ -129,7 +129,8 @@ impl ForkPath {
     /// Puts every pair of `other` in its place. With no memory the pairs stay.
     ///
     /// The cost grows with the two numbers of tiles: the tiles that both begin with are compared and then copied at once.
-    /// Where there are none yet, those of `other` are copied at once. There is room for two more then.
+    /// Where there are none yet, those of `other` are copied at once, and there is room for two more then; where `other` has
+    /// none either, no memory is taken.
     pub fn unite(&mut self, other: &ForkPath) -> Result<(), NoMemory>
         ensures pairs { OnOk result ((p : ℕ × ℕ) → has_pair p self.new.pairs ≡ (has_pair p other.now.pairs || has_pair p self.old.pairs)) }
         ensures same { OnErr result (self.new.pairs ≡ self.old.pairs) }
@@ -137,6 +138,9 @@ impl ForkPath {
     {
         if self.tiles.is_empty() {
             let others = other.tiles.as_slice();
+            if others.is_empty() {
+                return Ok(());
+            }
             self.tiles.reserve_exact(with_spare(others.len()))?;
             self.tiles.extend_from_slice(others)?;
             return Ok(());

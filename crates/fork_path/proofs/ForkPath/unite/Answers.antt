@@ -24,6 +24,9 @@ returns-then-is_empty-clause-pairs c =
 pub returns-then-is_empty-clause-ascending : goal.returns-then-is_empty-clause-ascending
 returns-then-is_empty-clause-ascending c = ascending-pairs_of c.extend_from_slice.new.self.items
 
+pub returns-then-is_empty-2-clause-ascending : goal.returns-then-is_empty-2-clause-ascending
+returns-then-is_empty-2-clause-ascending c = seen-ascending c.self.inside.tiles.items c.args.self.now.pairs (ap (λ v. v.pairs) c.self.view_is)
+
 pub returns-in_err-tiles-clause-ascending : goal.returns-in_err-tiles-clause-ascending
 returns-in_err-tiles-clause-ascending c = seen-ascending c.self.inside.tiles.items c.args.self.now.pairs (ap (λ v. v.pairs) c.self.view_is)
 
