@@ -9,7 +9,7 @@ ghost use Rattle.merge_txn.specs.Txns.{too_many_reads, put_fault, read_fault};
 
 use std::alloc::Global;
 use std::error::Error;
-use std::{fmt, mem};
+use std::fmt;
 use tardis_base::{
     Excess, Key, KeySet, ListOf, MAX_READS, MAX_WRITES, NoMemory, Slot, StateId, StateList, Write,
     WriteSet,
@@ -118,27 +118,6 @@ impl Txn {
             Txn::Merge(_) => Ok(()),
         }
     }
-
-    /// What it has written is taken out, and it has written nothing. It takes no memory.
-    pub fn take_writes(&mut self, alloc: Global) -> WriteSet
-        ensures taken { result ≡ writes_of self.old }
-        ensures left { self.new ≡ with_writes [] self.old }
-    {
-        match self {
-            Txn::Single(txn) => mem::replace(&mut txn.writes, WriteSet::new(alloc)),
-            Txn::Merge(txn) => mem::replace(&mut txn.writes, WriteSet::new(alloc)),
-        }
-    }
-
-    /// It has written this, in place of what it had. It takes no memory.
-    pub fn set_writes(&mut self, writes: WriteSet)
-        ensures { self.new ≡ with_writes writes self.old }
-    {
-        match self {
-            Txn::Single(txn) => txn.writes = writes,
-            Txn::Merge(txn) => txn.writes = writes,
-        }
-    }
 }
 
 /// Takes the write among these.
@@ -168,11 +147,7 @@ fn note_key(reads: &mut KeySet, key: Key) -> Result<(), TxnFault>
     ensures full { (result ≡ Err too_many_reads) ↔ IsTrue (has_no_place_to_read key reads.old) }
     ensures fault { IfErr result (λ fault. fault ≡ read_fault key reads.old) }
 {
-    let count = reads.len();
-    if reads.contains(&key) {
-        return Ok(());
-    }
-    if count == MAX_READS {
+    if reads.len() == MAX_READS && !reads.contains(&key) {
         return Err(TxnFault::TooMany {
             what: Excess::ReadKeys,
             n: MAX_READS as u32 + 1,
