@@ -1,12 +1,13 @@
 -- A key's list, reached by the place where the key stands.
-use Rattle.std.proofs.Common.{◌≡◌, ℕ, ◌≤◌, ◌<◌, true, false, nat_lt, List, [], ◌∷◌, slice_get, get_or, position, Some, is_some, bytes_eq, refl, sym, ◌∙◌, ap, subst, inl, inr, arith}
+use Rattle.std.proofs.Common.{◌≡◌, ℕ, ◌≤◌, ◌<◌, true, false, nat_lt, List, [], ◌∷◌, slice_get, get_or, position, Option, None, Some, is_some, IfSome, bytes_eq, refl, sym, ◌∙◌, ap, subst, inl, inr, arith}
 use Rattle.std.specs.Map.{lookup}
 use Rattle.std.specs.Option.{option_map, option_map_or}
 use Rattle.std.proofs.lemmas.Bool.{cases_Bool, both_ways, lt-ltb, ltb-true}
 use Rattle.std.proofs.lemmas.Cmp.{nat_list_eq_equiv}
+use Rattle.std.proofs.lemmas.List.Folds.{list_any_at}
 use Rattle.std.proofs.lemmas.List.Quantifiers.{position-Some}
 use Rattle.std.proofs.lemmas.Map.Entries.{hash_map_get_place}
-use Rattle.std.proofs.lemmas.Option.{slice_get-map, slice_get-get_or, same_Some}
+use Rattle.std.proofs.lemmas.Option.{slice_get-map, slice_get-get_or, slice_get_within, get_or_from_slice_get, same_Some}
 use Rattle.std.proofs.lemmas.Slice.Eq.{bytes_eq-Decides}
 use Rattle.indexmap.specs.IndexMap.{IndexMap, set_value_at, IsUnique}
 use Rattle.indexmap.proofs.CallerLemmas.{keys-with_value_at, updates-with_value_at}
@@ -35,6 +36,16 @@ pub found-stands : (k : List ℕ) (ks : List (List ℕ)) (i : ℕ) → position 
 found-stands k ks i e =
     let s = position-Some (bytes_eq k) ks i k e in
     slice_get-get_or ks i k s.0 ∙ ap Some (sym ((bytes_eq-Decides k (get_or ks i k)).0 s.1))
+
+-- wherever it is found
+pub wherever-found : (k : List ℕ) (ks : List (List ℕ)) (o : Option ℕ) → o ≡ position (bytes_eq k) ks → IfSome o (λ i. slice_get ks i ≡ Some k)
+wherever-found k ks None e = tt
+wherever-found k ks (Some i) e = found-stands k ks i (sym e)
+
+-- a key that stands at a place is listed
+pub stands-among : (k : List ℕ) (ks : List (List ℕ)) (i : ℕ) → slice_get ks i ≡ Some k → is_key_among k ks ≡ true
+stands-among k ks i e =
+    list_any_at (bytes_eq k) ks i k (slice_get_within ks i k e) (subst (λ j. bytes_eq k j ≡ true) (sym (get_or_from_slice_get ks i k k e)) ((bytes_eq-Decides k k).1 refl))
 
 -- the key of the entry at a place stands there
 pub entry-stands : (es : List (List ℕ × Listed)) (i : ℕ) (e : List ℕ × Listed) → slice_get es i ≡ Some e → slice_get (listed_of es) i ≡ Some e.0

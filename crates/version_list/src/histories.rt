@@ -1,7 +1,7 @@
 //! The versions of each key: one history a key.
 
 ghost use Rattle.std.specs.Prelude.{◌≡◌, ◌↔◌, ◌≤◌, ◌<◌, ◌+◌, ◌&&◌, ◌||◌, [], ◌∷◌, ◌++◌, ℕ, List, false, length, take, drop, slice_get, bytes_eq, vec_len};
-ghost use Rattle.std.specs.Prelude.{IsTrue, IfOk, IfSome, OnOk, OnErr, None, nat_le, get_or, slice_set};
+ghost use Rattle.std.specs.Prelude.{IsTrue, IfOk, IfSome, OnOk, OnErr, None, is_some, nat_le, get_or, slice_set};
 ghost use Rattle.std.specs.List.{list_any, list_all, insert, remove, IsDistinct};
 ghost use Rattle.std.specs.Option.{option_copied};
 ghost use Rattle.std.specs.Vec.{vec_capacity};
@@ -196,6 +196,8 @@ pub(crate) struct KeyLists {
     /// Where the keys stand that were last given room, the last of them at the end, as far as there was memory to note it. A key
     /// that doesn't stand there is looked up.
     places: Vec<usize>,
+    /// Where the key stood that was given room last. The next one is looked for there first, since it is often the same.
+    last: usize,
 }
 
 impl Model for KeyLists {
@@ -214,6 +216,7 @@ impl KeyLists {
         KeyLists {
             lists: IndexMap::with_hasher(alloc, keys),
             places: Vec::new(alloc),
+            last: 0,
         }
     }
 
@@ -261,14 +264,28 @@ impl KeyLists {
         ensures same { (k : List ℕ) → versions_in self.new k ≡ versions_in self.old k }
         ensures kept { (k : List ℕ) → IsTrue (has_room_in self.old k) → IsTrue (has_room_in self.new k) }
     {
-        if let Some(place) = self.lists.get_index_of(key) {
+        if let Some(place) = self.listed_at(key) {
+            self.last = place;
             note(&mut self.places, place);
             return self.reserve_at(key, place);
         }
-        note(&mut self.places, self.lists.len());
+        self.last = self.lists.len();
+        note(&mut self.places, self.last);
         let history = History::new(*self.lists.allocator())?;
         self.lists.insert(key.copy()?, history)?;
         Ok(())
+    }
+
+    /// Where the key stands, if it is listed: where the last one stood that was given room, or else where a look-up finds it.
+    fn listed_at(&self, key: &Key) -> Option<usize>
+        ensures there { IfSome result (λ place. slice_get (keys_in self.now) place ≡ Some key.now) }
+        ensures listed { is_some result ≡ is_some (listed_in self.now key.now) }
+    {
+        if self.stands_at(key, self.last) {
+            Some(self.last)
+        } else {
+            self.lists.get_index_of(key)
+        }
     }
 
     /// Makes room for one more version of the key, which stands at the place.

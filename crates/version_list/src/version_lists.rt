@@ -67,8 +67,8 @@ impl VersionList {
 
     /// Makes room for the versions of one more state with these writes. Keys that aren't listed yet are listed behind the others.
     ///
-    /// With no memory the listed keys are as before, and room may have been made. The cost grows with a look-up of each key
-    /// and the lengths of those that are new; a list without room is moved to where it has some.
+    /// With no memory the listed keys are as before, and room may have been made. The cost grows with a look-up of each key but
+    /// the one that was given room last, and the lengths of those that are new; a list without room is moved to where it has some.
     pub fn make_room(&mut self, writes: &WriteSet) -> Result<(), NoMemory>
         ensures room { OnOk result (IsTrue (has_room_for self.new writes.now)) }
         ensures listed { OnOk result (listed_keys self.new ≡ listed_keys self.old ++ new_keys (listed_keys self.old) writes.now) }

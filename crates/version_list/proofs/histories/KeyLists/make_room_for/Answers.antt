@@ -1,20 +1,15 @@
-use Rattle.std.proofs.Common.{◌≡◌, true, is_some, sym, ap, ap₂, subst, ◌∙◌}
+use Rattle.std.proofs.Common.{◌≡◌, true, is_some, sym, ap, ap₂, ◌∙◌}
 use Rattle.tardis_base.specs.Keys.{is_key_among}
 use Rattle.version_list.specs.Lists.{keys_in, with_listed}
 use Rattle.version_list.proofs.Listing.{on_ok, listed_of, listed-stays, inserted-listed}
-use Rattle.version_list.proofs.Places.{found-stands, some-listed}
+use Rattle.version_list.proofs.Places.{some-listed}
 use Rattle.version_list.proofs.histories.KeyLists.make_room_for.Goals as goal
-
-pub reserve_at-requires : goal.reserve_at-requires
-reserve_at-requires c =
-    found-stands c.args.key.now (listed_of c.self.inside.lists.entries) c.in-Some.place (sym c.get_index_of.ensures.index ∙ c.in-Some.is)
 
 pub returns-in-Some-clause-listed : goal.returns-in-Some-clause-listed
 returns-in-Some-clause-listed c =
     let key = c.args.key.now in
     let there : is_key_among key (keys_in c.args.self.now) ≡ true =
-    subst (λ v. is_key_among key (keys_in v) ≡ true) c.self.view_is
-    (some-listed key c.self.inside.lists.entries (sym c.get_index_of.ensures.found ∙ ap is_some c.in-Some.is)) in
+    some-listed key c.args.self.now.lists (sym c.listed_at.ensures.listed ∙ ap is_some c.in-Some.is) in
     on_ok c.reserve_at.result (keys_in c.reserve_at.new.self ≡ with_listed key (keys_in c.args.self.now))
     (c.reserve_at.ensures.keys ∙ ap keys_in c.self.view_is ∙ sym (listed-stays key (keys_in c.args.self.now) there))
 
