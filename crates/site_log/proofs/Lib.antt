@@ -13,3 +13,4 @@ mod Making
 mod Leaving
 mod Mending
 mod Readying
+mod Telling

@@ -8,6 +8,7 @@ ghost use Rattle.log_groups.specs.Items.{longest_body};
 ghost use Rattle.site_log.specs.Kept.{Kept, IsSettled, with_settle, opens_with, logged};
 ghost use Rattle.site_log.specs.Images.{Mark};
 ghost use Rattle.site_log.specs.Files.{MayFail};
+ghost use Rattle.site_log.specs.Shorter.{LooksAgain};
 ghost use Rattle.site_log.specs.Stood.{Stands, faults_of};
 
 use crate::bodies::Body;
@@ -54,6 +55,7 @@ impl<M: Shortening, K: BytewiseDisk> Logged<M, K> {
         ensures still { self.old.file.failed ≡ true → self.new.file ≡ self.old.file }
         ensures front { self.new.file.front ≡ self.old.file.front }
         ensures opening { M.opening self.new.machine ≡ M.opening self.old.machine }
+        ensures long { self.new.long ≡ self.old.long }
     {
         self.make_way();
         let before = self.waiting.len();
@@ -80,14 +82,14 @@ impl<M: Shortening, K: BytewiseDisk> Logged<M, K> {
     }
 
     /// Puts what waits on the disk, as one group: after a crash all of it is there, or none. From the moment at which this
-    /// answers `Ok`, all that lasted so far is in every image. Where the log has become long, it is told shorter then
-    /// (`shorten_beyond`): first beyond `LONG` bytes, and then each time once it is twice as long as it was left, or, where no
-    /// shorter one was found, once it has grown by a quarter, by `LONG` bytes at least.
+    /// answers `Ok`, all that lasted so far is in every image. Where the log has become long, it is told shorter then: first beyond
+    /// `LONG` bytes, and then as `shorten_beyond` says.
     pub fn settle_now(&mut self) -> Result<(), Failed>
         ensures settled { OnOk result ((kept : Kept M.Plain) (marks : List Mark) → Stands M.Resting K.Disk self.old kept marks
             → Stands M.Resting K.Disk self.new (with_settle kept) (record { moment = K.moment self.new.file.disk; count = length kept.things } ∷ marks)) }
         ensures same { OnErr result ((kept : Kept M.Plain) (marks : List Mark) → Stands M.Resting K.Disk self.old kept marks
             → Stands M.Resting K.Disk self.new kept marks) }
+        ensures again { OnOk result (LooksAgain self.old.long self.new) }
         ensures ended { OnErr result (self.new.file.failed ≡ true) }
         ensures still { self.old.file.failed ≡ true → self.new.file ≡ self.old.file }
         ensures cause { OnErr result (MayFail K.Disk self.old.file self.new.file) }
@@ -117,6 +119,7 @@ impl<M: Shortening, K: BytewiseDisk> Logged<M, K> {
         ensures stands { (kept : Kept M.Plain) (marks : List Mark) → Stands M.Resting K.Disk self.old kept marks → Stands M.Resting K.Disk self.new kept marks }
         ensures front { self.new.file.front ≡ self.old.file.front }
         ensures opening { M.opening self.new.machine ≡ M.opening self.old.machine }
+        ensures long { self.new.long ≡ self.old.long }
     {
         if self.waiting.has_room() {
             return;
@@ -135,6 +138,7 @@ impl<M: Shortening, K: BytewiseDisk> Logged<M, K> {
         ensures later { K.faults self.old.file.disk ≤ K.faults self.new.file.disk }
         ensures machine { self.new.machine ≡ self.old.machine }
         ensures front { self.new.file.front ≡ self.old.file.front }
+        ensures long { self.new.long ≡ self.old.long }
     {
         if self.file.has_failed() {
             self.waiting.clear();

@@ -10,6 +10,7 @@ ghost use Rattle.site_log.specs.Images.{HoldsBodies};
 ghost use Rattle.site_log.specs.Reads.{IsWanted};
 ghost use Rattle.site_log.specs.News.{first_room, IsNew};
 ghost use Rattle.site_log.specs.Opens.{IsOpened, OpeningLeaves, IsRefused, disk_of};
+ghost use Rattle.site_log.specs.Shorter.{first_length};
 ghost use Rattle.site_log.specs.Readies.{IsLoaded, DiskEnd, IsBegun, IsReady};
 
 use crate::ends::OpenEnd;
@@ -76,6 +77,7 @@ pub fn open_log<M: Resting, K: BytewiseDisk>(
     ensures honest { AsHonest K.honest disk (disk_of result) }
     ensures later { K.faults disk ≤ K.faults (disk_of result) }
     ensures opening { IfOk result (λ o. M.opening o.log.machine ≡ M.opening machine) }
+    ensures long { IfOk result (λ o. o.log.long ≡ first_length) }
 {
     let Ok(rooms) = Rooms::new(alloc) else {
         return Err(NotOpened {

@@ -5,6 +5,7 @@ ghost use Rattle.site_log.specs.Kept.{starts, TakesAll};
 ghost use Rattle.site_log.specs.Images.{Mark};
 ghost use Rattle.site_log.specs.Files.{IsAtRest};
 ghost use Rattle.site_log.specs.Resumes.{file_at};
+ghost use Rattle.site_log.specs.Shorter.{first_length};
 ghost use Rattle.site_log.specs.Stood.{Stands};
 
 use crate::bodies::Body;
@@ -59,6 +60,7 @@ pub fn resume<M: Resting, K: BytewiseDisk>(
     ensures file { IfOk result (λ l. l.file ≡ file_at disk end) }
     ensures handed_back { IfErr result (λ back. back ≡ disk) }
     ensures machine { IfOk result (λ l. l.machine ≡ machine) }
+    ensures long { IfOk result (λ l. l.long ≡ first_length) }
 {
     match Rooms::new(alloc) {
         Ok(rooms) => Ok(go_on(alloc, machine, disk, end, rooms)),
@@ -81,6 +83,7 @@ pub(crate) fn go_on<M: Resting, K: BytewiseDisk>(
         → Stands M.Resting K.Disk result (starts s bodies) (record { moment = K.moment disk; count = length bodies } ∷ []) }
     ensures file { result.file ≡ file_at disk end }
     ensures machine { result.machine ≡ machine }
+    ensures long { result.long ≡ first_length }
 {
     group_laws(); // for the proof alone
     Logged {

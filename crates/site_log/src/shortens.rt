@@ -1,12 +1,12 @@
 //! Telling a log shorter. `docs/DURABLE.md` states the steps.
 
-ghost use Rattle.std.specs.Prelude.{◌≡◌, ◌≤◌, ◌<◌, [], ◌++◌, List, ℕ, length, true, false, OnOk, OnErr};
+ghost use Rattle.std.specs.Prelude.{◌≡◌, ◌≤◌, ◌<◌, [], List, ℕ, true, false, OnOk, OnErr};
 ghost use Rattle.tardis_io.specs.Faults.{Rose};
 ghost use Rattle.disk_store.specs.Disks.{AsHonest};
 ghost use Rattle.site_log.specs.Kept.{Kept};
 ghost use Rattle.site_log.specs.Images.{Mark};
 ghost use Rattle.site_log.specs.Drafts.{IsShorter};
-ghost use Rattle.site_log.specs.Shorter.{WasTold};
+ghost use Rattle.site_log.specs.Shorter.{twice_as_long, quarter_longer, WhereLooked, LooksAgain, WasTold};
 ghost use Rattle.site_log.specs.Stood.{Stands};
 
 use crate::appends::MAX_PLACE;
@@ -37,11 +37,14 @@ pub enum Shortened {
 impl<M: Shortening, K: BytewiseDisk> Logged<M, K> {
     /// Where the log's text is longer than `length` bytes and nothing waits, puts a log of a shorter history in its place, in one step:
     /// a crash leaves the old one, or the new one. It brings the same: a machine that starts from it is one that started from the old
-    /// log. Whatever comes of it but `Failed`, the log goes on.
+    /// log. Whatever comes of it but `Failed`, the log goes on; where it was long, `settle_now` tells it shorter next once it is twice as
+    /// long as it is then, or, where no shorter one was found, once it has grown by a quarter, for a later moment may have one; by
+    /// `LONG` bytes at least.
     ///
     /// It takes memory for a second machine and for the new text, and time as the machine and the text grow.
     pub fn shorten_beyond(&mut self, length: u64) -> Shortened
         ensures told { WasTold K.Disk self.old length result self.new }
+        ensures next { WhereLooked result (self.new.file.place ≤ self.new.long) }
         ensures stands { (kept : Kept M.Plain) (marks : List Mark) → Stands M.Resting K.Disk self.old kept marks → Stands M.Resting K.Disk self.new kept marks }
         ensures machine { self.new.machine ≡ self.old.machine }
         ensures waiting { self.new.waiting ≡ self.old.waiting }
@@ -62,8 +65,14 @@ impl<M: Shortening, K: BytewiseDisk> Logged<M, K> {
         let before = self.file.place();
         match draft_log(self.alloc, &self.machine, self.file.front(), before) {
             Ok(Some(draft)) => self.take_over(&draft),
-            Ok(None) => Shortened::NoShorter,
-            Err(NoMemory) => Shortened::NoMemory,
+            Ok(None) => {
+                self.long = once_grown(before);
+                Shortened::NoShorter
+            }
+            Err(NoMemory) => {
+                self.long = once_doubled(before);
+                Shortened::NoMemory
+            }
         }
     }
 
@@ -73,6 +82,7 @@ impl<M: Shortening, K: BytewiseDisk> Logged<M, K> {
         requires none { self.old.waiting ≡ [] }
         requires draft { IsShorter M.Resting self.old.machine self.old.file.front draft.now }
         ensures told { (length : ℕ) → length < self.old.file.place → WasTold K.Disk self.old length result self.new }
+        ensures next { WhereLooked result (self.new.file.place ≤ self.new.long) }
         ensures stands { (kept : Kept M.Plain) (marks : List Mark) → Stands M.Resting K.Disk self.old kept marks → Stands M.Resting K.Disk self.new kept marks }
         ensures machine { self.new.machine ≡ self.old.machine }
         ensures waiting { self.new.waiting ≡ self.old.waiting }
@@ -84,22 +94,32 @@ impl<M: Shortening, K: BytewiseDisk> Logged<M, K> {
         let before = self.file.place();
         let after = draft.text.len() as u64;
         if after >= before {
+            self.long = once_grown(before);
             return Shortened::NoShorter;
         }
         if after > MAX_PLACE {
+            self.long = once_grown(before);
             return Shortened::NoShorter;
         }
         match self.file.replace(draft.text.as_slice(), draft.number) {
-            Ok(true) => Shortened::Done { before, after },
-            Ok(false) => Shortened::NoRoom,
+            Ok(true) => {
+                self.long = once_doubled(after);
+                Shortened::Done { before, after }
+            }
+            Ok(false) => {
+                self.long = once_doubled(before);
+                Shortened::NoRoom
+            }
             Err(Failed) => Shortened::Failed,
         }
     }
 
-    /// Tells the log shorter, where it has become long, and says when that is tried again (`next_length`).
+    /// Tells the log shorter, where it has become long.
     pub(crate) fn shorten_now(&mut self) -> Result<(), Failed>
         requires open { self.old.file.failed ≡ false }
+        requires none { self.old.waiting ≡ [] }
         ensures stands { (kept : Kept M.Plain) (marks : List Mark) → Stands M.Resting K.Disk self.old kept marks → Stands M.Resting K.Disk self.new kept marks }
+        ensures again { OnOk result (LooksAgain self.old.long self.new) }
         ensures done { OnOk result (self.new.file.failed ≡ false) }
         ensures failed { OnErr result (self.new.file.failed ≡ true) }
         ensures cause { OnErr result (Rose (K.faults self.old.file.disk) (K.faults self.new.file.disk)) }
@@ -110,21 +130,25 @@ impl<M: Shortening, K: BytewiseDisk> Logged<M, K> {
         ensures later { K.faults self.old.file.disk ≤ K.faults self.new.file.disk }
     {
         match self.shorten_beyond(self.long) {
-            Shortened::NotLong => Ok(()),
             Shortened::Failed => Err(Failed),
-            told => {
-                self.long = next_length(told, self.file.place());
-                Ok(())
-            }
+            _ => Ok(()),
         }
     }
 }
 
-/// Beyond which length a log is told shorter next, where this came of it and it has so many bytes now: once it is twice as long; and
-/// where no shorter one was found, once it has grown by a quarter, for a later moment may have one. `LONG` bytes pass at least.
-fn next_length(told: Shortened, place: u64) -> u64 {
-    match told {
-        Shortened::NoShorter => place.saturating_add(LONG.max(place / 4)),
-        _ => LONG.max(place.saturating_mul(2)),
-    }
+/// Beyond which length a log of so many bytes is told shorter next: once it is twice as long, and has `LONG` bytes at least.
+fn once_doubled(bytes: u64) -> u64
+    ensures next { result ≡ twice_as_long bytes }
+    ensures within { bytes ≤ result }
+{
+    LONG.max(bytes.saturating_mul(2))
+}
+
+/// Beyond which length it is told shorter next, where no shorter one was found: once it has grown by a quarter, by `LONG` bytes at
+/// least.
+fn once_grown(bytes: u64) -> u64
+    ensures next { result ≡ quarter_longer bytes }
+    ensures within { bytes ≤ result }
+{
+    bytes.saturating_add(LONG.max(bytes / 4))
 }

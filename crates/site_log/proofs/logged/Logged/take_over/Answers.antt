@@ -28,7 +28,7 @@ returns-in-Ok-true-clause-stands g c =
       text = c.args.self.now.text;
       owed = c.args.self.now.owed;
       alloc = c.args.self.now.alloc;
-      long = c.args.self.now.long;
+      long = c.once_doubled-self.result;
     })
     draft c.requires.draft refl c.replace.ensures.front refl refl c.requires.none c.requires.open c.replace.ensures.honest.1
     (λ h bodies others is t. c.replace.ensures.any_moment h bodies others is (spelled others t))
@@ -59,7 +59,7 @@ returns-in-Ok-false-clause-stands g c =
       text = c.args.self.now.text;
       owed = c.args.self.now.owed;
       alloc = c.args.self.now.alloc;
-      long = c.args.self.now.long;
+      long = c.once_doubled-self-in-Ok-false.result;
     })
     draft c.requires.draft refl c.replace.ensures.front refl refl c.requires.none c.requires.open c.replace.ensures.honest.1
     (λ h bodies others is t. c.replace.ensures.any_moment h bodies others is (spelled others t))
