@@ -88,8 +88,8 @@ module _ {K : Type 0} (k : ADisk K) (written : WrittenIsHeld) (old : OpenFile K)
     }
 
 -- the log goes on, as the old one or as the shorter one
-module _ {M K : Type 0} (m : AResting M) (k : ADisk K) (laws : RestLaws m) (l new : Logged M K) (draft : Draft M)
-    (d : IsShorter m l.machine l.file.front draft) (machine : new.machine ≡ l.machine) (front : new.file.front ≡ l.file.front)
+module _ {M K : Type 0} (m : AResting M) (k : ADisk K) (laws : RestLaws m) (guards : ℕ) (l new : Logged M K) (draft : Draft M)
+    (d : IsShorter m guards l.machine l.file.front draft) (machine : new.machine ≡ l.machine) (front : new.file.front ≡ l.file.front)
     (waits : new.waiting ≡ l.waiting) (owed : new.owed ≡ l.owed) (none : l.waiting ≡ []) (sound : l.file.failed ≡ false)
     (honest : k.honest new.file.disk → k.honest l.file.disk)
     (leaves : k.honest l.file.disk → (bodies others : List (List ℕ)) → IsFile k l.file bodies → IsLogText draft.text.items l.file.front draft.number others

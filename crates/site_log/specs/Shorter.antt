@@ -1,10 +1,11 @@
 -- What comes of telling a log shorter.
-use Rattle.std.specs.Prelude.{◌≡◌, ◌⊎◌, ℕ, ◌+◌, ◌*◌, ◌/◌, ◌<◌, ◌≤◌, max, min, [], true, false}
+use Rattle.std.specs.Prelude.{◌≡◌, ◌⊎◌, ℕ, ◌+◌, ◌*◌, ◌/◌, ◌<◌, ◌≤◌, List, max, min, [], true, false}
 use Rattle.tardis_io.specs.Faults.{Rose}
 use Rattle.disk_store.specs.declared.disks.Disk.{Ghosts as ADisk}
 use Rattle.site_log.specs.declared.logged.Logged.{Logged}
 use Rattle.site_log.specs.declared.logged.TheConstants.{LONG}
-use Rattle.site_log.specs.Files.{IsSameFile}
+use Rattle.site_log.specs.Files.{OpenFile, IsFile, IsSameFile}
+use Rattle.site_log.specs.Drafts.{guards_of, AreGuarded}
 use Rattle.site_log.specs.declared.shortens.Shortened.{Shortened}
 use Rattle.site_log.specs.declared.shortens.Shortened.TheVariants.{NotLong, Done, NoShorter, NoMemory, NoRoom, Failed}
 
@@ -23,6 +24,11 @@ twice_as_long bytes = max first_length (min (bytes * 2) largest)
 -- and where no shorter one was found: once it has grown by a quarter, by 16 MiB at least
 abbrev pub quarter_longer : ℕ → ℕ
 quarter_longer bytes = min (bytes + max first_length (bytes / 4)) largest
+
+-- a fact, where a shorter log is there now
+abbrev pub WhereDone : Shortened → Type 0 → Type 0
+WhereDone (Done _ _) fact = fact
+WhereDone _ fact = Unit {0}
 
 -- a fact, where a shorter log was looked for
 abbrev pub WhereLooked : Shortened → Type 0 → Type 0
@@ -47,6 +53,11 @@ module _ {M K : Type 0} where
   abbrev pub LooksAgain : ℕ → Logged M K → Type 0
   LooksAgain before l =
       (l.file.place ≤ l.long) × ((l.long ≡ before) ⊎ ((l.long ≡ twice_as_long l.file.place) ⊎ (l.long ≡ quarter_longer l.file.place)))
+
+-- where the old file had a log, the new one has one with groups without things behind the others: as many as the old one's text asks for
+abbrev pub IsGuarded : {K : Type 0} → ADisk K → OpenFile K → OpenFile K → Type 0
+IsGuarded k old new =
+    (bodies : List (List ℕ)) → IsFile k old bodies → (others : List (List ℕ)) × (IsFile k new others × AreGuarded (guards_of old.place) others)
 
 module _ {M K : Type 0} (k : ADisk K) where
   -- the file's text is longer than so many bytes, and nothing waits

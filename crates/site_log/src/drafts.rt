@@ -1,9 +1,9 @@
 //! The log of a shorter history, before it is put on a disk.
 
-ghost use Rattle.std.specs.Prelude.{◌≡◌, ◌+◌, ◌≤◌, [], true, Ok, IfOk, length};
+ghost use Rattle.std.specs.Prelude.{◌≡◌, ◌+◌, ◌≤◌, ◌++◌, [], ◌∷◌, ℕ, List, true, Ok, IfOk, length};
 ghost use Rattle.rest_machine.specs.Rests.{most_lasting};
 ghost use Rattle.log_groups.specs.Items.{longest_body};
-ghost use Rattle.site_log.specs.Drafts.{HasDraft, FindsShorter};
+ghost use Rattle.site_log.specs.Drafts.{guards_of, IsDraft, HasDraft, HasGuards, FindsShorter};
 
 use crate::bodies::Body;
 use crate::texts::front_text;
@@ -33,7 +33,7 @@ pub(crate) fn draft_log<M: Shortening>(
     front: &LogFront,
     before: u64,
 ) -> Result<Option<Draft<M>>, NoMemory>
-    ensures { IfOk result (λ found. FindsShorter M.Resting machine.now front.now found) }
+    ensures { IfOk result (λ found. FindsShorter M.Resting (guards_of before) machine.now front.now found) }
 {
     let plan = machine.plan()?;
     match begun(alloc, machine, front) {
@@ -43,7 +43,9 @@ pub(crate) fn draft_log<M: Shortening>(
 }
 
 /// How many groups without things stand behind a log that was so long.
-fn guards_for(before: u64) -> u64 {
+fn guards_for(before: u64) -> u64
+    ensures { result ≡ guards_of before }
+{
     MAX_GUARDS.min(before / 1024)
 }
 
@@ -67,7 +69,7 @@ fn finished<M: Shortening>(
     guards: u64,
 ) -> Result<Option<Draft<M>>, NoMemory>
     requires { HasDraft M.Resting (M.opening machine.now) front.now draft }
-    ensures { IfOk result (λ found. FindsShorter M.Resting machine.now front.now found) }
+    ensures { IfOk result (λ found. FindsShorter M.Resting guards machine.now front.now found) }
 {
     let mut draft = draft;
     match draft.put_all(machine, plan, front) {
@@ -103,7 +105,8 @@ impl<M: Shortening> Draft<M> {
 
     /// Puts all things of a plan, as many in a group as find room there. `false` means that the machine doesn't take them back.
     fn put_all(&mut self, machine: &M, plan: &M::Plan, front: &LogFront) -> Result<bool, NoMemory>
-        ensures { result ≡ Ok true → (from : M.Plain) → HasDraft M.Resting from front.now self.old → HasDraft M.Resting from front.now self.new }
+        ensures empty { result ≡ Ok true → self.new.body ≡ [] }
+        ensures has { result ≡ Ok true → (from : M.Plain) → HasDraft M.Resting from front.now self.old → HasDraft M.Resting from front.now self.new }
     {
         for number in 0..M::planned(plan) {
             match self.make_way(front) {
@@ -119,7 +122,8 @@ impl<M: Shortening> Draft<M> {
     /// Puts so many groups without things behind the others: what a crash leaves is at the end alone, so damage before them is told as such.
     /// `false` means that the machine doesn't take them back.
     fn put_guards(&mut self, front: &LogFront, guards: u64) -> Result<bool, NoMemory>
-        ensures { result ≡ Ok true → (from : M.Plain) → HasDraft M.Resting from front.now self.old → HasDraft M.Resting from front.now self.new }
+        requires { self.old.body ≡ [] }
+        ensures { result ≡ Ok true → (from : M.Plain) → HasDraft M.Resting from front.now self.old → HasGuards M.Resting guards from front.now self.new }
     {
         for _guard in 0..guards {
             match self.put_body(front) {
@@ -157,6 +161,8 @@ impl<M: Shortening> Draft<M> {
     /// that it doesn't take it back.
     fn put_body(&mut self, front: &LogFront) -> Result<bool, NoMemory>
         ensures empty { result ≡ Ok true → self.new.body ≡ [] }
+        ensures more { result ≡ Ok true → (from : M.Plain) (bodies : List (List ℕ)) → IsDraft M.Resting from front.now self.old bodies
+            → IsDraft M.Resting from front.now self.new (bodies ++ self.old.body ∷ []) }
         ensures has { result ≡ Ok true → (from : M.Plain) → HasDraft M.Resting from front.now self.old → HasDraft M.Resting from front.now self.new }
     {
         group_laws(); // for the proof alone

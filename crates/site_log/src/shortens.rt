@@ -5,8 +5,8 @@ ghost use Rattle.tardis_io.specs.Faults.{Rose};
 ghost use Rattle.disk_store.specs.Disks.{AsHonest};
 ghost use Rattle.site_log.specs.Kept.{Kept};
 ghost use Rattle.site_log.specs.Images.{Mark};
-ghost use Rattle.site_log.specs.Drafts.{IsShorter};
-ghost use Rattle.site_log.specs.Shorter.{twice_as_long, quarter_longer, WhereLooked, LooksAgain, WasTold};
+ghost use Rattle.site_log.specs.Drafts.{guards_of, IsShorter};
+ghost use Rattle.site_log.specs.Shorter.{twice_as_long, quarter_longer, WhereDone, WhereLooked, IsGuarded, LooksAgain, WasTold};
 ghost use Rattle.site_log.specs.Stood.{Stands};
 
 use crate::appends::MAX_PLACE;
@@ -37,13 +37,14 @@ pub enum Shortened {
 impl<M: Shortening, K: BytewiseDisk> Logged<M, K> {
     /// Where the log's text is longer than `length` bytes and nothing waits, puts a log of a shorter history in its place, in one step:
     /// a crash leaves the old one, or the new one. It brings the same: a machine that starts from it is one that started from the old
-    /// log. Whatever comes of it but `Failed`, the log goes on; where it was long, `settle_now` tells it shorter next once it is twice as
-    /// long as it is then, or, where no shorter one was found, once it has grown by a quarter, for a later moment may have one; by
-    /// `LONG` bytes at least.
+    /// log. Whatever comes of it but `Failed`, the log goes on. Where it was long, `settle_now` tells it shorter next once it is twice as
+    /// long as it is then, and has `LONG` bytes at least; or, where no shorter one was found, once it has grown by a quarter, by `LONG`
+    /// bytes at least, for a later moment may have one.
     ///
     /// It takes memory for a second machine and for the new text, and time as the machine and the text grow.
     pub fn shorten_beyond(&mut self, length: u64) -> Shortened
         ensures told { WasTold K.Disk self.old length result self.new }
+        ensures guarded { K.honest self.old.file.disk → WhereDone result (IsGuarded K.Disk self.old.file self.new.file) }
         ensures next { WhereLooked result (self.new.file.place ≤ self.new.long) }
         ensures stands { (kept : Kept M.Plain) (marks : List Mark) → Stands M.Resting K.Disk self.old kept marks → Stands M.Resting K.Disk self.new kept marks }
         ensures machine { self.new.machine ≡ self.old.machine }
@@ -80,8 +81,9 @@ impl<M: Shortening, K: BytewiseDisk> Logged<M, K> {
     fn take_over(&mut self, draft: &Draft<M>) -> Shortened
         requires open { self.old.file.failed ≡ false }
         requires none { self.old.waiting ≡ [] }
-        requires draft { IsShorter M.Resting self.old.machine self.old.file.front draft.now }
+        requires draft { IsShorter M.Resting (guards_of self.old.file.place) self.old.machine self.old.file.front draft.now }
         ensures told { (length : ℕ) → length < self.old.file.place → WasTold K.Disk self.old length result self.new }
+        ensures guarded { K.honest self.old.file.disk → WhereDone result (IsGuarded K.Disk self.old.file self.new.file) }
         ensures next { WhereLooked result (self.new.file.place ≤ self.new.long) }
         ensures stands { (kept : Kept M.Plain) (marks : List Mark) → Stands M.Resting K.Disk self.old kept marks → Stands M.Resting K.Disk self.new kept marks }
         ensures machine { self.new.machine ≡ self.old.machine }

@@ -13,7 +13,7 @@ returns-then-rests_as g c =
       lasts = g.met.M.Resting.lasts;
       rest_alike = g.met.M.Resting.rest_alike;
     } in
-    is_shorter M c.args.front.now laws c.args.machine.now c.put_guards.new.self
+    is_shorter M c.args.front.now laws c.args.guards c.args.machine.now c.put_guards.new.self
     (c.put_guards.ensures (c.in-Ok-true-put_guards.is ∙ ap (λ f. Ok f) c.in-Ok-true-put_guards.field-0-test) (M.opening c.args.machine.now)
-    (c.put_all.ensures (c.in-Ok-true.is ∙ ap (λ f. Ok f) c.in-Ok-true.field-0-test) (M.opening c.args.machine.now) c.requires))
+    (c.put_all.ensures.has (c.in-Ok-true.is ∙ ap (λ f. Ok f) c.in-Ok-true.field-0-test) (M.opening c.args.machine.now) c.requires))
     (c.rests_as.ensures c.if-rests_as.true)
