@@ -222,7 +222,7 @@ module _ (rs : List Record) (ks : List StateId) (dag : IsDag rs) (shared : Stand
 
 -- ===== The versions then
 
-slots-from_same : (a b : Slot) → same_slot a b ≡ true → a ≡ b
+pub slots-from_same : (a b : Slot) → same_slot a b ≡ true → a ≡ b
 slots-from_same a b t = ap (λ n. let s : Slot = record { 0 = n } in s) (eqb-true a.0 b.0 t)
 
 -- slots of states that arrived one before the other are two
@@ -236,7 +236,7 @@ version-none slot (v ∷ vs) none =
     rw parts.0 (version-none slot vs parts.1)
 
 -- another state's version stays
-has-without : (from q : Slot) (vs : List Version) → same_slot from q ≡ false → has_version_at q (without_version from vs) ≡ has_version_at q vs
+pub has-without : (from q : Slot) (vs : List Version) → same_slot from q ≡ false → has_version_at q (without_version from vs) ≡ has_version_at q vs
 has-without from q [] differ = refl
 has-without from q (v ∷ vs) differ = elim (cases_Bool (same_slot v.slot from)) [
   | inl t ↦

@@ -20,7 +20,10 @@ use Rattle.record_store.specs.Store.{Store}
 use Rattle.record_store.specs.Held.{seen, IsHeld}
 use Rattle.record_store.specs.Stands.{StoreStands}
 use Rattle.record_store.specs.Answers.{AddedIn}
+use Rattle.record_store.specs.declared.child_notes.ChildNote.{ChildNote}
+use Rattle.record_store.specs.ChildNotes.{AreTrueNotes}
 use Rattle.record_store.proofs.Adding.{same-stands, added-none, added-one}
+use Rattle.record_store.proofs.ChildNotes.{notes-stay}
 
 -- each slot is that of a kept state
 pub slot-is_kept_at : (a : Inside) (store : Store) (slot : Slot) → seen a ≡ store → IsHeld a → IsTrue (is_slot store.table slot) →
@@ -49,6 +52,7 @@ module _ (a : Inside) (store : Store) (is : seen a ≡ store) where
     noted = λ s t kept kept_t before. notes s ∙ held.noted s t (subst (λ (d : Table). IsTrue (is_kept_at d s)) same kept)
         (subst (λ (d : Table). IsTrue (is_kept_at d t)) same kept_t)
         (subst (λ (d : Table). arrival_at d t < arrival_at d s) same before);
+    children = notes-stay a.dag dag a.versions vs same versions a.notes held.children;
   }
 
   -- and where a state arrived, for which keys were noted
@@ -56,8 +60,9 @@ module _ (a : Inside) (store : Store) (is : seen a ≡ store) where
       ((s : Slot) → IsTrue (is_kept_at a.dag s) → IsTrue (is_kept_at dag s) × (arrival_at dag s ≡ arrival_at a.dag s)) → IsTrue (is_kept_at dag slot) →
       ((s : Slot) → IsTrue (is_kept_at a.dag s) → arrival_at dag s < arrival_at dag slot) →
       ((s : Slot) → (s ≡ slot → ⊥) → IsTrue (is_slot dag s) → IsTrue (is_slot a.dag s)) → IsInOrder (is_kept_at dag) (arrival_at dag) vs →
-      ((s : Slot) → is_noted vs s ≡ (same_slot slot s || is_noted a.versions s)) → IsHeld (record a { dag = dag; versions = vs })
-  held-grown dag vs held slot kept kept_slot newest others order notes = record {
+      ((s : Slot) → is_noted vs s ≡ (same_slot slot s || is_noted a.versions s)) → (es : List (Slot × ChildNote)) → AreTrueNotes dag vs es →
+      IsHeld (record a { dag = dag; versions = vs; notes = es })
+  held-grown dag vs held slot kept kept_slot newest others order notes es children = record {
     in_order = (and_parts (is_slot dag slot) (arrive_in_order dag.entries) kept_slot).1;
     versions = order;
     noted = λ s t kept_s kept_t before. notes s ∙ elim (cases_Bool (same_slot slot s)) [
@@ -72,6 +77,7 @@ module _ (a : Inside) (store : Store) (is : seen a ≡ store) where
           let two = (kept t there).1 in
           or_right (same_slot slot s) (is_noted a.versions s) (held.noted s t here there (omega (arith, one, two, before)))
     ];
+    children = children;
   }
 
   -- there was no memory

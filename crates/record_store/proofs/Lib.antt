@@ -2,6 +2,7 @@
 pub mod Holders
 pub mod Reading
 pub mod Adding
+pub mod ChildNotes
 pub mod Holding
 pub mod Records
 pub mod LatestHolders

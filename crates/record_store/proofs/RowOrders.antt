@@ -13,6 +13,7 @@ use Rattle.version_list.specs.declared.histories.Version.{Version}
 use Rattle.version_list.specs.Versions.{versions_of, are_in_order}
 use Rattle.record_store.specs.declared.RecordStore.TheInside.{Inside}
 use Rattle.record_store.specs.Held.{IsHeld}
+use Rattle.record_store.proofs.ChildNotes.{none-true}
 use Rattle.record_store.proofs.Next.{found_in, arrival_in, first-found, later-found, there-later, behind, rest-in_order}
 
 -- ===== The last entry
@@ -178,9 +179,10 @@ pub held-after : (a : Inside) (new : Table) (site n : ℕ) (answer : Result Slot
     ((s : Slot) → is_kept_at new s ≡ is_kept_at a.dag s) → IfOk answer (λ slot. arrival_at new slot ≡ a.dag.known + n - 1) →
     IfOk answer (λ slot. (s : Slot) → (s ≡ slot → ⊥) → arrival_at new s ≡ arrival_at a.dag s) →
     IfOk answer (λ slot. (s : Slot) → (s ≡ slot → ⊥) → IsTrue (is_kept_at a.dag s) → arrival_at a.dag s < arrival_at a.dag slot) →
-    IsHeld (record a { dag = new })
+    IsHeld (record a { dag = new; notes = [] })
 held-after a new site n (Err f) held is kept arrived arrivals newest =
-    subst (λ (t : Table). IsHeld (record a { dag = t })) (sym (same-table a.dag new site n f is)) held
+    subst (λ (t : Table). IsHeld (record a { dag = t; notes = [] })) (sym (same-table a.dag new site n f is))
+    (record { in_order = held.in_order; versions = held.versions; noted = held.noted; children = none-true a.dag a.versions })
 held-after a new site n (Ok slot) held is kept arrived arrivals newest =
     let now = newest-now a.dag new site n is.1 kept slot arrived in
     record {
@@ -190,4 +192,5 @@ held-after a new site n (Ok slot) held is kept arrived arrivals newest =
           let here = sym (kept s) ∙ kept_s in
           let there = sym (kept t) ∙ kept_t in
           held.noted s t here there (less-was a.dag new slot kept arrivals newest now t s there here before);
+      children = none-true new a.versions;
     }

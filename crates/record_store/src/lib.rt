@@ -4,7 +4,7 @@
 #![tactic(auto)]
 
 ghost use Rattle.std.specs.Prelude.{◌≡◌, true, ◌+◌, ◌-◌, ◌<◌, ◌≤◌, ◌||◌, ℕ, Bool, List, [], ◌∷◌, length, map, take, Option, Some, None, slice_get, unwrap_or};
-ghost use Rattle.std.specs.Prelude.{IsTrue, IsSome, IfOk, IfSome, OnOk, OnErr};
+ghost use Rattle.std.specs.Prelude.{IsTrue, IsFalse, IsSome, IfOk, IfSome, OnOk, OnErr};
 ghost use Rattle.std.specs.List.{list_all};
 ghost use Rattle.std.specs.Option.{option_map, option_and_then};
 ghost use Rattle.tardis_base.specs.declared.ids.StateId.{StateId};
@@ -12,22 +12,25 @@ ghost use Rattle.tardis_base.specs.declared.ids.Slot.{Slot};
 ghost use Rattle.tardis_base.specs.declared.records.Record.{Record};
 ghost use Rattle.tardis_base.specs.Keys.{are_ascending_keys, is_key_among, keys_of};
 ghost use Rattle.tardis_base.specs.Valid.{are_limits};
-ghost use Rattle.plain_dag.specs.States.{root_record, record_at, parents_of};
+ghost use Rattle.tardis_base.specs.Ids.{is_among};
+ghost use Rattle.plain_dag.specs.States.{root_record, record_at, parents_of, children};
 ghost use Rattle.plain_dag.specs.Writers.{read, latest_writer};
 ghost use Rattle.plain_dag.specs.Landing.{is_news};
 ghost use Rattle.plain_dag.specs.Collection.{stand_in};
 ghost use Rattle.state_dag.specs.Shared.{shared_stand_in};
 ghost use Rattle.state_dag.specs.Detached.{shared_slot, without_slot};
 ghost use Rattle.state_dag.specs.Table.{is_slot_above};
-ghost use Rattle.state_dag.specs.Table.{id_at, is_slot, is_listed, is_kept_at, arrival_at};
+ghost use Rattle.state_dag.specs.Table.{id_at, is_slot, is_listed, is_kept_at, arrival_at, child_slots_at};
 ghost use Rattle.state_dag.specs.Answers.{MayBeAdded, IsNewSlot, KeepsSlots};
 ghost use Rattle.version_list.specs.Versions.{IsInOrder, is_key_in};
 ghost use Rattle.version_list.specs.Reads.{found};
 ghost use Rattle.record_store.specs.Stands.{StoreStands, holds_key};
 ghost use Rattle.record_store.specs.Answers.{AddedIn, IsSameStore, MayArrive, StandsAlone, HasReads, read_write, write_found};
 
+mod child_notes;
 mod rows;
 
+use child_notes::{ChildNotes, forget_child, note_children};
 pub use state_dag::RowFault;
 use state_dag::StateDag;
 use std::alloc::Global;
@@ -46,6 +49,7 @@ pub struct RecordStore {
     alloc: Global,
     dag: StateDag,
     versions: VersionList,
+    notes: ChildNotes,
 }
 
 /// How many parents a record may have.
@@ -74,6 +78,7 @@ impl RecordStore {
             alloc,
             dag: StateDag::new(alloc, limits)?,
             versions: VersionList::new(alloc, keys),
+            notes: ChildNotes::new(alloc),
         })
     }
 
@@ -148,6 +153,7 @@ impl RecordStore {
             Ok(slot) => {
                 let moved = mem::replace(writes, WriteSet::new(self.alloc));
                 self.versions.add(&self.dag, slot, id, moved);
+                note_children(&mut self.notes, &self.dag, &self.versions, parents);
                 Ok(slot)
             },
             Err(fault) => {
@@ -210,6 +216,7 @@ impl RecordStore {
         match self.dag.shared_stand_in(slot) {
             Some(heir) => {
                 let next = is_next(&self.dag, slot, heir);
+                forget_child(&mut self.notes, &self.dag, slot);
                 self.versions.promote(&self.dag, slot, heir, next);
                 self.dag.detach(slot)
             },
@@ -263,6 +270,24 @@ impl RecordStore {
             is_in(key, self.keys_at(child))
         } else {
             self.is_latest_news(from, child, key)
+        }
+    }
+
+    /// How many of the first children of the state at `from` are known to bring news of the key, none of which need be tried. It
+    /// takes constant time, and a comparison of keys.
+    ///
+    /// It is noted for one key at most of a state with many children, as they are added, as long as none of them is collected. So
+    /// 0 says nothing.
+    pub fn tried_children(&self, from: Slot, key: &Key) -> usize
+        requires { IsTrue (is_slot self.now.table from) }
+        ensures within { result ≤ length (child_slots_at self.now.table from) }
+        ensures news { (rs : List Record) (ks : List StateId) → StoreStands self.now rs ks → (x : StateId) → id_at self.now.table from ≡ Some x
+            → ((c : StateId) → IsTrue (is_among c (children rs x)) → IsFalse (is_among c ks))
+            → IsTrue (list_all (λ c. is_news rs x c key.now) (take result (children rs x))) }
+    {
+        match self.notes.at(from) {
+            Some(note) if &note.key == key => note.count,
+            _ => 0,
         }
     }
 

@@ -50,6 +50,7 @@ impl RecordStore {
         ensures limits { self.new.table.limits ≡ self.old.table.limits }
         ensures same { OnErr result (self.new ≡ self.old) }
     {
+        self.notes.clear();
         self.dag.advance(site, count)
     }
 }

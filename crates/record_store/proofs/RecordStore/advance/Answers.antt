@@ -1,11 +1,16 @@
+use Rattle.std.proofs.Common.{List, sym, subst}
+use Rattle.tardis_base.specs.declared.ids.Slot.{Slot}
+use Rattle.record_store.specs.declared.child_notes.ChildNote.{ChildNote}
+use Rattle.record_store.specs.Held.{IsHeld}
 use Rattle.record_store.proofs.RowOrders.{held-after}
 use Rattle.record_store.proofs.RowStores.{row-at, stands-after, last-before, stand_ins-after, reads-after, slots-stay}
 use Rattle.record_store.proofs.RecordStore.advance.Goals as goal
 
 pub invariant_of-self : goal.invariant_of-self
 invariant_of-self c =
-    held-after c.self.inside c.advance.new.self c.args.site c.args.count c.advance.result c.self.invariant c.advance.ensures.advanced c.advance.ensures.kept
-    c.advance.ensures.arrived c.advance.ensures.arrivals c.advance.ensures.newest
+    subst (λ (es : List (Slot × ChildNote)). IsHeld (record c.self.inside { dag = c.advance.new.self; notes = es })) (sym c.clear.ensures)
+    (held-after c.self.inside c.advance.new.self c.args.site c.args.count c.advance.result c.self.invariant c.advance.ensures.advanced c.advance.ensures.kept
+    c.advance.ensures.arrived c.advance.ensures.arrivals c.advance.ensures.newest)
 
 pub returns-clause-stands : goal.returns-clause-stands
 returns-clause-stands c =

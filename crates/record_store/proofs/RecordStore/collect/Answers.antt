@@ -1,12 +1,14 @@
 use Rattle.std.proofs.Common.{◌≡◌, Some, sym, ap, subst, ◌∙◌, arith}
 use Rattle.std.proofs.lemmas.Bool.{and_parts}
 use Rattle.std.proofs.lemmas.Option.{same_Some}
-use Rattle.state_dag.specs.Table.{id_at, is_slot, arrive_in_order}
+use Rattle.state_dag.specs.Table.{id_at, is_slot, arrive_in_order, arrival_at}
+use Rattle.state_dag.specs.Answers.{LeavesChildren}
 use Rattle.version_list.specs.Versions.{versions_of}
 use Rattle.record_store.specs.Store.{Store}
 use Rattle.record_store.specs.Held.{seen}
 use Rattle.record_store.proofs.Holding.{seen-stands}
 use Rattle.record_store.proofs.Collecting.{collected-stands, kept-is_other, order-agrees}
+use Rattle.record_store.proofs.ChildNotes.{notes-left}
 use Rattle.record_store.proofs.RecordStore.collect.Goals as goal
 
 pub invariant_of-self : goal.invariant_of-self
@@ -27,6 +29,11 @@ invariant_of-self c =
           c.promote.ensures.noted s
           ∙ c.self.invariant.noted s t (sym (c.detach.ensures.kept s other) ∙ kept) (sym (c.detach.ensures.kept t other_t) ∙ kept_t)
           (omega (arith, one, two, before));
+      children = notes-left old new c.self.inside.versions c.promote.new.self c.args.slot c.in-Some.heir
+          (subst (LeavesChildren old new c.args.slot) (sym (same_Some c.in-Some.heir c.detach.result (sym c.in-Some.is ∙ (c.shared_stand_in.ensures.is
+          ∙ c.detach.ensures.stand_in)))) c.detach.ensures.children)
+          c.detach.ensures.names (arrival_at old) c.promote.ensures.promoted c.self.inside.notes c.forget_child.new.notes c.forget_child.ensures
+          c.self.invariant.children;
     }
 
 pub returns-clause-collected : goal.returns-clause-collected

@@ -8,6 +8,7 @@ use Rattle.record_store.specs.Store.{Store}
 use Rattle.record_store.specs.Answers.{IsSameStore}
 use Rattle.record_store.proofs.Adding.{order-stays, all-came_before}
 use Rattle.record_store.proofs.Holding.{still-held, held-grown, short-of_memory, refused-by_table, added-to_both}
+use Rattle.record_store.proofs.ChildNotes.{notes-grow, slots-are_kept}
 use Rattle.record_store.proofs.RecordStore.commit.Goals as goal
 
 pub invariant_of-self : goal.invariant_of-self
@@ -74,4 +75,16 @@ pub invariant_of-self-in-Ok : goal.invariant_of-self-in-Ok
 invariant_of-self-in-Ok c =
     held-grown c.self.inside c.args.self.now c.self.view_is c.add.new.self c.add-in-Ok.new.self c.self.invariant c.in-Ok.slot c.add.ensures.kept c.in-Ok.ensures.arrived.0
     c.in-Ok.ensures.newest c.in-Ok.ensures.others c.add-in-Ok.ensures.order
-    (λ s. c.add-in-Ok.ensures.noted s ∙ ap (λ b. same_slot c.in-Ok.slot s || b) (c.make_room.ensures.noted s))
+    (λ s. c.add-in-Ok.ensures.noted s ∙ ap (λ b. same_slot c.in-Ok.slot s || b) (c.make_room.ensures.noted s)) c.note_children.new.notes c.note_children.ensures
+
+pub note_children-requires-clause-so : goal.note_children-requires-clause-so
+note_children-requires-clause-so c =
+    notes-grow c.self.inside.dag c.add.new.self c.self.inside.versions c.add-in-Ok.new.self c.args.parents.now c.in-Ok.slot c.in-Ok.ensures.child c.add.ensures.keeps
+    (λ k. version_by c.in-Ok.slot c.args.id (write_of k c.replace-moved.result))
+    (λ k. c.add-in-Ok.ensures.added k ∙ ap (λ (vs : List Version). vs ++ version_by c.in-Ok.slot c.args.id (write_of k c.replace-moved.result))
+    (c.make_room.ensures.same k))
+    c.self.inside.notes c.self.invariant.children
+
+pub note_children-requires-clause-slots : goal.note_children-requires-clause-slots
+note_children-requires-clause-slots c = slots-are_kept c.args.self.now.table c.self.inside.dag c.add.new.self (ap (λ (s : Store). s.table) c.self.view_is)
+    c.add.ensures.keeps c.args.parents.now c.requires.slots
