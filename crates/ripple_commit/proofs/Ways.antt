@@ -1,11 +1,11 @@
 -- The way to a landing.
 use Rattle.std.proofs.Common.{◌≡◌, ℕ, ◌+◌, ◌≤◌, ◌<◌, Bool, true, false, not, ◌||◌, List, [], ◌∷◌, length, map, take, get_or, find, Option, Some, None, IsTrue}
-use Rattle.std.proofs.Common.{IsFalse, refl, sym, ap, ap₂, subst, ◌∙◌, arith}
-use Rattle.std.specs.List.{list_any}
+use Rattle.std.proofs.Common.{cond, IsFalse, refl, sym, ap, ap₂, subst, ◌∙◌, arith}
+use Rattle.std.specs.List.{list_any, list_all}
 use Rattle.std.proofs.lemmas.List.{length-map}
-use Rattle.std.proofs.lemmas.Bool.{and_parts, and_from, or_parts, or_from, cond-true, cond-false, not_from_false}
+use Rattle.std.proofs.lemmas.Bool.{and_parts, and_from, or_parts, or_from, or_left, or_right, cond-true, cond-false, not_from_false}
 use Rattle.std.proofs.lemmas.Option.{same_Some}
-use Rattle.std.proofs.lemmas.List.Folds.{list_any_more}
+use Rattle.std.proofs.lemmas.List.Folds.{list_any_more, list_any-append}
 use Rattle.tardis_base.specs.declared.ids.StateId.{StateId}
 use Rattle.tardis_base.specs.declared.ids.Slot.{Slot}
 use Rattle.tardis_base.specs.declared.records.Record.{Record}
@@ -14,7 +14,7 @@ use Rattle.tardis_base.specs.Ids.{is_among}
 use Rattle.tardis_base.specs.Keys.{KeyWrite, keys_of}
 use Rattle.plain_dag.specs.States.{is_known, arrival, children}
 use Rattle.plain_dag.specs.Above.{is_above}
-use Rattle.plain_dag.specs.Landing.{passes, first_passing, landing, guarded}
+use Rattle.plain_dag.specs.Landing.{is_ser, is_si, is_news, passes, first_passing, landing, guarded}
 use Rattle.plain_dag.specs.Dag.{IsDag}
 use Rattle.plain_dag.specs.Collection.{is_kept, stand_in}
 use Rattle.plain_dag.specs.Laws.{StandInsAreShared}
@@ -101,6 +101,43 @@ module _ (rs : List Record) (ks : List StateId) (keys : List (List ℕ)) (x : St
 
   pub none-found : (n : ℕ) → length items ≤ n → list_any (passes rs keys x) (take n items) ≡ false → ◌≡◌ {A = Option StateId} None (first_passing rs keys x)
   none-found n all none = sym (ap (find (passes rs keys x)) (sym same) ∙ found-nowhere (passes rs keys x) items n all none)
+
+  -- where each brings news of a key among these none passes
+  pub none-passes : (some : List (List ℕ)) → ((p : List ℕ → Bool) → list_any p some ≡ true → list_any p keys ≡ true) → (n : ℕ) →
+      IsTrue (list_all (λ c. list_any (is_news rs x c) some) (take n items)) → list_any (passes rs keys x) (take n items) ≡ false
+  none-passes some more n all = go (take n items) all
+    where
+      go : (cs : List StateId) → IsTrue (list_all (λ c. list_any (is_news rs x c) some) cs) → list_any (passes rs keys x) cs ≡ false
+      go [] h = refl
+      go (c ∷ cs) h =
+          let parts = and_parts (list_any (is_news rs x c) some) (list_all (λ d. list_any (is_news rs x d) some) cs) h in
+          or_from (passes rs keys x c) (list_any (passes rs keys x) cs) (ap not (more (is_news rs x c) parts.0)) (go cs parts.1)
+
+  -- where each brings news of the key, each brings news of one of these, among which it is
+  pub news-of_one : (k : List ℕ) → ((p : List ℕ → Bool) → p k ≡ true → list_any p keys ≡ true) → (n : ℕ) →
+      IsTrue (list_all (λ c. is_news rs x c k) (take n items)) → IsTrue (list_all (λ c. list_any (is_news rs x c) keys) (take n items))
+  news-of_one k among n all = go (take n items) all
+    where
+      go : (cs : List StateId) → IsTrue (list_all (λ c. is_news rs x c k) cs) → IsTrue (list_all (λ c. list_any (is_news rs x c) keys) cs)
+      go [] h = refl
+      go (c ∷ cs) h =
+          let parts = and_parts (is_news rs x c k) (list_all (λ d. is_news rs x d k) cs) h in
+          and_from (list_any (is_news rs x c) keys) (list_all (λ d. list_any (is_news rs x d) keys) cs) (among (is_news rs x c) parts.0) (go cs parts.1)
+
+-- what one of the guarded keys passes
+pub read-is_guarded : (flags : EndFlags) (reads written : List (List ℕ)) → IsTrue (is_ser flags) → (p : List ℕ → Bool) → list_any p reads ≡ true →
+    list_any p (guarded flags reads written) ≡ true
+read-is_guarded flags reads written ser p h =
+    list_any-append p (cond (is_ser flags) reads []) (cond (is_si flags) written [])
+    ∙ or_left (list_any p (cond (is_ser flags) reads [])) (list_any p (cond (is_si flags) written []))
+    (ap (list_any p) (cond-true (is_ser flags) reads [] ser) ∙ h)
+
+pub written-is_guarded : (flags : EndFlags) (reads written : List (List ℕ)) → IsTrue (is_si flags) → (p : List ℕ → Bool) → list_any p written ≡ true →
+    list_any p (guarded flags reads written) ≡ true
+written-is_guarded flags reads written si p h =
+    list_any-append p (cond (is_ser flags) reads []) (cond (is_si flags) written [])
+    ∙ or_right (list_any p (cond (is_ser flags) reads [])) (list_any p (cond (is_si flags) written []))
+    (ap (list_any p) (cond-true (is_si flags) written [] si) ∙ h)
 
 -- ===== The way
 

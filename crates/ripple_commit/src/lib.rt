@@ -2,8 +2,8 @@
 //! from there. The rule is stated in `docs/MODEL.md`.
 #![tactic(auto)]
 
-ghost use Rattle.std.specs.Prelude.{◌≡◌, ℕ, Some, List, is_some, IsTrue, IsFalse, IfSome};
-ghost use Rattle.std.specs.List.{list_any};
+ghost use Rattle.std.specs.Prelude.{◌≡◌, ℕ, false, Some, List, take, is_some, IsTrue, IsFalse, IfSome};
+ghost use Rattle.std.specs.List.{list_any, list_all};
 ghost use Rattle.std.specs.Option.{option_and_then};
 ghost use Rattle.tardis_base.specs.declared.ids.StateId.{StateId};
 ghost use Rattle.tardis_base.specs.declared.records.Record.{Record};
@@ -21,10 +21,14 @@ use bitflags::Flags;
 use record_store::RecordStore;
 use tardis_base::{EndFlags, Key, KeySet, Slot, Write, WriteSet};
 
+/// How many children are few enough that nobody asks which of them need not be tried.
+const FEW: usize = 3;
+
 /// The slot of the state under which a transaction commits that read the state at `read`.
 ///
 /// Nothing below the read state may be collected. The cost grows with the number of children that are tried on the way,
-/// and for each with the guarded keys, as `RecordStore::is_news` does: no state's id is looked up.
+/// and for each with the guarded keys, as `RecordStore::is_news` does: no state's id is looked up. Of a state with many children
+/// those aren't tried of which it is noted that they bring news of a guarded key (`RecordStore::tried_children`).
 pub fn landing(
     store: &RecordStore,
     read: Slot,
@@ -65,12 +69,72 @@ fn first_passing(
         → ((c : StateId) → IsTrue (is_among c (children rs x)) → IsFalse (is_among c ks))
         → option_and_then (id_at store.now.table) result ≡ first_passing rs (guarded flags reads.now (keys_of writes.now)) x }
 {
-    for child in store.dag().child_slots(from) {
-        if !has_news(store, from, *child, flags, reads, writes) {
-            return Some(*child);
+    let children = store.dag().child_slots(from);
+    for place in tried(store, from, flags, reads, writes)..children.len() {
+        let child = children[place];
+        if !has_news(store, from, child, flags, reads, writes) {
+            return Some(child);
         }
     }
     None
+}
+
+/// How many of the first children need not be tried, since it is noted that they bring news of a guarded key.
+fn tried(
+    store: &RecordStore,
+    from: Slot,
+    flags: EndFlags,
+    reads: &KeySet,
+    writes: &WriteSet,
+) -> usize
+    requires { IsTrue (is_slot store.now.table from) }
+    ensures { (rs : List Record) (ks : List StateId) → StoreStands store.now rs ks → (x : StateId) → id_at store.now.table from ≡ Some x
+        → ((c : StateId) → IsTrue (is_among c (children rs x)) → IsFalse (is_among c ks))
+        → list_any (passes rs (guarded flags reads.now (keys_of writes.now)) x) (take result (children rs x)) ≡ false }
+{
+    if store.dag().child_slots(from).len() <= FEW {
+        return 0;
+    }
+    if flags.contains(EndFlags::SER) {
+        let tried = tried_for_reads(store, from, reads.as_slice());
+        if tried > 0 {
+            return tried;
+        }
+    }
+    if flags.contains(EndFlags::SI) {
+        return tried_for_writes(store, from, writes.as_slice());
+    }
+    0
+}
+
+fn tried_for_reads(store: &RecordStore, from: Slot, keys: &[Key]) -> usize
+    requires { IsTrue (is_slot store.now.table from) }
+    ensures { (rs : List Record) (ks : List StateId) → StoreStands store.now rs ks → (x : StateId) → id_at store.now.table from ≡ Some x
+        → ((c : StateId) → IsTrue (is_among c (children rs x)) → IsFalse (is_among c ks))
+        → IsTrue (list_all (λ c. list_any (is_news rs x c) keys.now) (take result (children rs x))) }
+{
+    for key in keys {
+        let tried = store.tried_children(from, key);
+        if tried > 0 {
+            return tried;
+        }
+    }
+    0
+}
+
+fn tried_for_writes(store: &RecordStore, from: Slot, writes: &[(Key, Write)]) -> usize
+    requires { IsTrue (is_slot store.now.table from) }
+    ensures { (rs : List Record) (ks : List StateId) → StoreStands store.now rs ks → (x : StateId) → id_at store.now.table from ≡ Some x
+        → ((c : StateId) → IsTrue (is_among c (children rs x)) → IsFalse (is_among c ks))
+        → IsTrue (list_all (λ c. list_any (is_news rs x c) (keys_of writes.now)) (take result (children rs x))) }
+{
+    for write in writes {
+        let tried = store.tried_children(from, &write.0);
+        if tried > 0 {
+            return tried;
+        }
+    }
+    0
 }
 
 /// Whether a guarded key is news of the child.

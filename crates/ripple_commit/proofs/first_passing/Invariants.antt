@@ -10,7 +10,7 @@ use Rattle.state_dag.specs.Table.{id_at}
 use Rattle.record_store.specs.Stands.{StoreStands}
 use Rattle.ripple_commit.proofs.first_passing.Given as goal
 
-abbrev pub invariant-loop-child : goal.invariant-loop-child
-invariant-loop-child l = (rs : List Record) (ks : List StateId) → StoreStands l.store rs ks → (x : StateId) → id_at l.store.table l.from ≡ Some x →
+abbrev pub invariant-loop-place : goal.invariant-loop-place
+invariant-loop-place l = (rs : List Record) (ks : List StateId) → StoreStands l.store rs ks → (x : StateId) → id_at l.store.table l.from ≡ Some x →
     ((c : StateId) → IsTrue (is_among c (children rs x)) → IsFalse (is_among c ks)) →
-    list_any (passes rs (guarded l.flags l.reads (keys_of l.writes)) x) (take l.child-index (children rs x)) ≡ false
+    list_any (passes rs (guarded l.flags l.reads (keys_of l.writes)) x) (take l.place (children rs x)) ≡ false
