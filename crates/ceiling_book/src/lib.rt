@@ -1,7 +1,8 @@
 //! The book of ceilings: the open sessions with their ceilings and last commits, and what is known of each site's floor.
 #![tactic(auto)]
 
-ghost use Rattle.std.specs.Prelude.{◌≡◌, ◌≤◌, List, [], ◌∷◌, replicate, length, Some, IsTrue, IfOk, OnErr};
+ghost use Rattle.std.specs.Prelude.{◌≡◌, ◌≤◌, List, [], ◌∷◌, map, replicate, length, Some, IsTrue, IfOk, OnErr};
+ghost use Rattle.std.specs.List.{All};
 ghost use Rattle.tardis_base.specs.declared.ids.StateId.{StateId};
 ghost use Rattle.tardis_base.specs.declared.records.Record.{Record};
 ghost use Rattle.tardis_base.specs.Ids.{root as the_root};
@@ -11,8 +12,8 @@ ghost use Rattle.plain_dag.specs.Floors.{Session, after_commit, opening_floor, f
 ghost use Rattle.plain_dag.specs.Collection.{stand_in};
 ghost use Rattle.state_dag.specs.Table.{Table, id_at, is_slot};
 ghost use Rattle.state_dag.specs.Stands.{Stands};
-ghost use Rattle.ceiling_book.specs.Book.{sessions_of, floors_of, own_floor, is_open};
-ghost use Rattle.ceiling_book.specs.Places.{AreSlots, ArePlaced};
+ghost use Rattle.ceiling_book.specs.Book.{sessions_of, floors_of, known_floor, own_floor, is_open};
+ghost use Rattle.ceiling_book.specs.Places.{IsSlotOf, IsAt, HasStandIn, AreSlots, ArePlaced};
 ghost use Rattle.ceiling_book.specs.Answers.{KeepsRest, OpenedIn};
 ghost use Rattle.ceiling_book.specs.Renaming.{renamed, is_free, GivesUp};
 
@@ -128,6 +129,38 @@ impl CeilingBook {
             sessions: BTreeMap::new(alloc),
             floors,
         })
+    }
+
+    /// The book of a site at rest: no session, where the root stands or what stands in for it, and the floor of each site, in
+    /// the order of the sites' numbers. It takes no memory.
+    pub fn resting(
+        alloc: Global,
+        limits: &Limits,
+        own: u16,
+        root: Slot,
+        floors: Vec<KnownFloor>,
+    ) -> CeilingBook
+        requires limits { IsTrue (are_limits limits.now) }
+        requires first { 1 ≤ own }
+        requires last { own ≤ limits.now.sites }
+        requires each { length floors.items ≡ limits.now.sites }
+        ensures own { result.own ≡ own }
+        ensures max_sessions { result.max_sessions ≡ limits.now.max_sessions }
+        ensures sessions { sessions_of result ≡ [] }
+        ensures floors { floors_of result ≡ map known_floor floors.items }
+        ensures root { result.root ≡ root }
+        ensures slots { (table : Table) → IsTrue (is_slot table root) → All (λ f. IsSlotOf table f.place) floors.items → AreSlots result table }
+        ensures placed { (table : Table) (rs : List Record) (ks : List StateId)
+            → HasStandIn table rs ks (record { state = the_root; slot = root }) → All (λ f. IsAt table f.place) floors.items
+            → ArePlaced result table rs ks }
+    {
+        CeilingBook {
+            own,
+            max_sessions: limits.max_sessions,
+            root,
+            sessions: BTreeMap::new(alloc),
+            floors,
+        }
     }
 
     /// Opens the session under the own floor, with the root as its last commit, and answers the slot of its ceiling.
