@@ -14,14 +14,13 @@ which needs a C compiler (`cc`, or $CC)."""
 
 import argparse
 import os
-import socket as sockets
 import struct
 import subprocess
 import tempfile
 import threading
 import time
 
-from client import PATIENCE, TOP, ask, built, ended
+from client import PATIENCE, TOP, Asker, ask, built, ended
 from serve import address
 
 RECORDS = [15_000, 100_000, 1_000_000]
@@ -45,31 +44,6 @@ def most_memory(process):
     """The most bytes that it held at once."""
     with open("/proc/%d/status" % process.pid, encoding="ascii") as file:
         return next(1024 * int(line.split()[1]) for line in file if line.startswith("VmHWM"))
-
-
-class Asker:
-    """A connection that asks by turns."""
-
-    def __init__(self, socket):
-        self.socket = sockets.socket(sockets.AF_UNIX)
-        self.socket.connect(socket)
-
-    def all_of(self, count):
-        got = b""
-        while len(got) < count:
-            more = self.socket.recv(count - len(got))
-            if not more:
-                raise SystemExit("bench/start.py: the server ended a connection")
-            got += more
-        return got
-
-    def reply(self):
-        return self.all_of(struct.unpack(">I", self.all_of(4))[0])
-
-    def ask(self, *requests):
-        """The replies to these requests, which are sent at once."""
-        self.socket.sendall(b"".join(struct.pack(">I", len(it)) + it for it in requests))
-        return [self.reply() for _ in requests]
 
 
 class Watch(threading.Thread):

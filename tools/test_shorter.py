@@ -15,7 +15,6 @@ chooses (SEED), half of them while the shorter log is written beside the old one
 
 import os
 import random
-import socket as sockets
 import struct
 import subprocess
 import sys
@@ -25,8 +24,9 @@ import time
 
 HERE = os.path.dirname(os.path.abspath(__file__))
 TOP = os.path.dirname(HERE)
-sys.path[:0] = [os.path.join(TOP, "clients", "python")]
+sys.path[:0] = [os.path.join(TOP, "clients", "python"), os.path.join(TOP, "bench")]
 
+from client import Asker  # noqa: E402
 from servers import PATIENCE, first_line, stop  # noqa: E402
 
 KEYS, BATCH, SIZE = 2_000, 20, 3_900
@@ -45,40 +45,6 @@ def value(number):
 
 def put(number):
     return b"\x04" + key(number) + struct.pack(">H", SIZE) + value(number)
-
-
-class Asker:
-    """A connection; None is answered once the server is gone."""
-
-    def __init__(self, path):
-        self.socket = sockets.socket(sockets.AF_UNIX)
-        self.socket.settimeout(PATIENCE)
-        self.socket.connect(path)
-        self.left = b""
-
-    def take(self, count):
-        while len(self.left) < count:
-            try:
-                more = self.socket.recv(1 << 16)
-            except ConnectionError:
-                return None
-            if not more:
-                return None
-            self.left += more
-        taken, self.left = self.left[:count], self.left[count:]
-        return taken
-
-    def reply(self):
-        length = self.take(4)
-        return None if length is None else self.take(struct.unpack(">I", length)[0])
-
-    def ask(self, *requests):
-        try:
-            self.socket.sendall(b"".join(struct.pack(">I", len(it)) + it for it in requests))
-        except ConnectionError:
-            pass
-        for _ in requests:
-            yield self.reply()
 
 
 def started(program, path):
@@ -103,12 +69,12 @@ def kill(server, path, choose):
 
 def write(path, number, end):
     """Commits from this number on until the server is gone or the time is over: the last one that was told, and that was asked for."""
-    asker = Asker(path + ".socket")
-    assert next(asker.ask(FOLLOW))[:1] == b"\x01"
+    asker = Asker(path + ".socket", PATIENCE)
+    assert next(asker.replies(FOLLOW))[:1] == b"\x01"
     told = number - 1
     while time.monotonic() < end:
         asked = [request for at in range(number, number + BATCH) for request in (BEGIN, put(at), COMMIT)]
-        for place, reply in enumerate(asker.ask(*asked)):
+        for place, reply in enumerate(asker.replies(*asked)):
             if reply is None:
                 return told, number + BATCH - 1
             if place % 3 == 2:
@@ -120,11 +86,11 @@ def write(path, number, end):
 
 def look(path, told, asked):
     """Looks at what a server has: the newest number."""
-    asker = Asker(path + ".socket")
-    assert next(asker.ask(OPEN))[:1] == b"\x01"
+    asker = Asker(path + ".socket", PATIENCE)
+    assert next(asker.replies(OPEN))[:1] == b"\x01"
     replies = []
     for first in range(0, KEYS, BATCH):
-        replies += list(asker.ask(BEGIN, *[b"\x03" + key(number) for number in range(first, first + BATCH)], ABORT))[1:-1]
+        replies += list(asker.replies(BEGIN, *[b"\x03" + key(number) for number in range(first, first + BATCH)], ABORT))[1:-1]
     found = []
     for number, reply in enumerate(replies):
         last_told = told - (told - number) % KEYS if told >= number else None
