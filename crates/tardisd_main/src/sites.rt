@@ -12,8 +12,8 @@ ghost use Rattle.command_words.specs.Places.{IsPlace};
 ghost use Rattle.join_rules.specs.declared.join_codes.TheConstants.{JOIN};
 ghost use Rattle.tardisd_main.specs.Sites.{upkeep_rule, slow_rule, joining_rule, scope_of, begin_life, ServesPlace};
 
-use command_words::DaemonPlan;
-use hub::{End, Ports, Scope, Upkeep, serve};
+use command_words::{DaemonPlan, MOST_CONNECTIONS};
+use hub::{End, Ports, SLOTS, Scope, Upkeep, serve};
 use join_rules::join_codes;
 use rest_machine::Settling;
 use rest_site::{RestSite, oldest_codes};
@@ -26,6 +26,9 @@ use wire_talk::{reply_codes, request_codes};
 
 /// The request Oldest: the edge is told which session's ceiling is the oldest, before it is told how much is kept.
 const ASK_OLDEST: [u8; 1] = [oldest_codes::OLDEST];
+
+// words ask for as many connections as a hub has slots for, and no more
+const _: () = prove!(SLOTS == MOST_CONNECTIONS as usize);
 
 /// The request Stat, whose reply the edge is told of.
 const STAT: [u8; 1] = [request_codes::STAT];
