@@ -70,7 +70,7 @@ fn first_passing(
         → option_and_then (id_at store.now.table) result ≡ first_passing rs (guarded flags reads.now (keys_of writes.now)) x }
 {
     let children = store.dag().child_slots(from);
-    for place in tried(store, from, flags, reads, writes)..children.len() {
+    for place in tried(store, from, children.len(), flags, reads, writes)..children.len() {
         let child = children[place];
         if !has_news(store, from, child, flags, reads, writes) {
             return Some(child);
@@ -79,10 +79,11 @@ fn first_passing(
     None
 }
 
-/// How many of the first children need not be tried, since it is noted that they bring news of a guarded key.
+/// How many of the first of so many children need not be tried, since it is noted that they bring news of a guarded key.
 fn tried(
     store: &RecordStore,
     from: Slot,
+    number: usize,
     flags: EndFlags,
     reads: &KeySet,
     writes: &WriteSet,
@@ -92,7 +93,7 @@ fn tried(
         → ((c : StateId) → IsTrue (is_among c (children rs x)) → IsFalse (is_among c ks))
         → list_any (passes rs (guarded flags reads.now (keys_of writes.now)) x) (take result (children rs x)) ≡ false }
 {
-    if store.dag().child_slots(from).len() <= FEW {
+    if number <= FEW {
         return 0;
     }
     if flags.contains(EndFlags::SER) {
