@@ -26,5 +26,6 @@ pub mod FloorMoves
 pub mod Tidying
 pub mod Exchanging
 pub mod Resting
+pub mod Together
 pub mod TakingRows
 mod JoiningInOne

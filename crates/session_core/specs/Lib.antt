@@ -18,3 +18,4 @@ pub mod Exchange
 pub mod Joins
 pub mod Machine
 pub mod Rests
+pub mod Together

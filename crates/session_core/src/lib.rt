@@ -25,6 +25,7 @@ mod reads_and_writes;
 mod rests;
 mod sessions;
 mod shows;
+mod starts;
 mod stops;
 mod transactions;
 
