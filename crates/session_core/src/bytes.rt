@@ -24,6 +24,7 @@ ghost use Rattle.session_core.specs.Txns.{slot_read};
 ghost use Rattle.session_core.specs.Gives.{Gives};
 ghost use Rattle.session_core.specs.Machine.{AsksFor, SiteStands, GivesBytes, IsTold, opened_with, writing, Wrote};
 
+use crate::commits::CommitEnd;
 use crate::gives::{give_end, give_found, give_refused};
 use crate::reads_and_writes::own_write;
 use crate::stops::Stop;
@@ -33,7 +34,7 @@ use merge_txn::{MergeTxn, Txn};
 use std::alloc::Global;
 use tardis_base::{
     Begin, EndFlags, Key, Machine, NoMemory, Over, ReadFault, Refusal, Reply, ReplyBuf, Request,
-    Value, Write,
+    StateList, Value, Write,
 };
 use wire_talk::{
     LentRequest, read_lent, read_request, talk_has_one_spelling, write_begun, write_done,
@@ -78,6 +79,14 @@ fn value_of(alloc: Global, bytes: &[u8]) -> Result<Value, NoMemory>
     match Value::new(alloc, bytes) {
         Ok(value) => Ok(value),
         Err(_) => Err(NoMemory),
+    }
+}
+
+/// Keeps the memory of the parents that were told.
+fn keep_room(told: &mut StateList, end: CommitEnd) {
+    match end {
+        CommitEnd::Committed { parents, .. } => *told = parents,
+        CommitEnd::Ended { .. } => {},
     }
 }
 
@@ -162,6 +171,7 @@ impl Parts {
         &mut self,
         actor: u16,
         lent: LentRequest<'_>,
+        told: &mut StateList,
         out: &mut ReplyBuf,
     ) -> Result<(), Stop>
         requires valid { IsTrue (is_request (request_lent lent)) }
@@ -174,7 +184,7 @@ impl Parts {
             LentRequest::Get { key } => self.get_lent(actor, key, out),
             LentRequest::Put { key, value } => self.put_lent(actor, key, value, out),
             LentRequest::Delete { key } => self.delete_lent(actor, key, out),
-            LentRequest::Commit { flags, k } => self.commit_into(actor, flags, k, out),
+            LentRequest::Commit { flags, k } => self.commit_into(actor, flags, k, told, out),
         }
     }
 
@@ -244,12 +254,14 @@ impl Parts {
         }
     }
 
-    /// Commits the actor's transaction, and writes the reply into the empty buffer.
+    /// Commits the actor's transaction, and writes the reply into the empty buffer. The parents are told in the memory of
+    /// `told`, which is given back.
     fn commit_into(
         &mut self,
         actor: u16,
         flags: EndFlags,
         k: u16,
+        told: &mut StateList,
         out: &mut ReplyBuf,
     ) -> Result<(), Stop>
         requires valid { IsTrue (is_commit flags k) }
@@ -257,8 +269,9 @@ impl Parts {
         requires stands { StandsForSite self.old }
         ensures { Wrote self.old self.new actor (Request.Commit flags k) result out.new }
     {
-        let end = self.commit(actor, flags, k)?;
+        let end = self.commit(actor, flags, k, told)?;
         give_end(&end, out);
+        keep_room(told, end);
         Ok(())
     }
 }
@@ -279,7 +292,7 @@ impl SiteCore {
         ensures sure { IsTrue (is_sure (request_lent lent.entry)) → IsOk result }
         ensures opening { opened_with self.new ≡ opened_with self.old }
     {
-        match self.parts.serve_lent(actor, lent, out) {
+        match self.parts.serve_lent(actor, lent, &mut self.told, out) {
             Ok(()) => Ok(()),
             Err(Stop::Refused(refusal)) => {
                 give_refused(refusal, out);

@@ -16,7 +16,7 @@ ghost use Rattle.session_core.specs.Commits.{commit_reply, IsLandingOf, CommitsA
 ghost use Rattle.session_core.specs.Txns.{IsNamed};
 
 use crate::Parts;
-use crate::merges::states_of;
+use crate::merges::states_in;
 use crate::stops::Stop;
 use conflict_keys::open_conflict;
 use merge_txn::{MergeTxn, SingleTxn, Txn};
@@ -42,14 +42,22 @@ impl Parts {
     ///
     /// The cost is that of `RecordStore::commit`, and before it that of `ripple_commit::landing`, or for a merge that of
     /// `conflict_keys::open_conflict`. Where a single one wrote nothing, it is that of looking the transaction up.
-    pub(crate) fn commit(&mut self, actor: u16, flags: EndFlags, k: u16) -> Result<CommitEnd, Stop>
+    ///
+    /// The parents that it tells stand in the memory that `told` took before, and has no more then.
+    pub(crate) fn commit(
+        &mut self,
+        actor: u16,
+        flags: EndFlags,
+        k: u16,
+        told: &mut StateList,
+    ) -> Result<CommitEnd, Stop>
         requires { StandsForSite self.old }
         ensures { Does commit_reply self.old self.new result (λ site. with_txn site actor (λ s t. commit_txn site actor t flags k)) }
     {
         match self.open_txn(actor)? {
             Txn::Merge(merge) => {
                 let below = self.joined_slots(merge, flags)?;
-                self.commit_below(actor, below.as_slice())
+                self.commit_below(actor, below.as_slice(), told)
             },
             Txn::Single(single) => {
                 if single.writes.is_empty() {
@@ -57,7 +65,7 @@ impl Parts {
                     return Ok(self.end_reading(actor, state));
                 }
                 let landing = self.landing(single, flags);
-                self.commit_at(actor, landing, flags, k)
+                self.commit_at(actor, landing, flags, k, told)
             },
         }
     }
@@ -116,18 +124,24 @@ impl Parts {
         landing: Slot,
         flags: EndFlags,
         k: u16,
+        told: &mut StateList,
     ) -> Result<CommitEnd, Stop>
         requires open { IsTrue (is_open self.old.book actor) }
         requires slot { IsTrue (is_slot self.old.store.table landing) }
         ensures { CommitsAt self.old self.new actor landing flags k result }
     {
         end_rule::check(self.store.dag(), landing, flags, k)?;
-        self.commit_below(actor, &[landing])
+        self.commit_below(actor, &[landing], told)
     }
 
     /// Commits the transaction below the states of these slots, as the next state of the site. What it has written is moved
     /// into the store; where the state isn't added, it stays.
-    fn commit_below(&mut self, actor: u16, below: &[Slot]) -> Result<CommitEnd, Stop>
+    fn commit_below(
+        &mut self,
+        actor: u16,
+        below: &[Slot],
+        told: &mut StateList,
+    ) -> Result<CommitEnd, Stop>
         requires open { IsTrue (is_open self.old.book actor) }
         requires slots { IsTrue (list_all (is_slot self.old.store.table) below.now) }
         ensures { CommitsBelow self.old self.new actor below.now result }
@@ -141,7 +155,7 @@ impl Parts {
             site: own,
             sequence: count + 1,
         };
-        let parents = states_of(self.alloc, self.store.dag(), below)?;
+        let parents = states_in(self.alloc, told, self.store.dag(), below)?;
         let Some(done) = self.txns.commit(&mut self.store, actor, id, below) else {
             return Err(Stop::Refused(Refusal::NoTxn));
         };

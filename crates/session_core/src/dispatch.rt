@@ -15,7 +15,7 @@ ghost use Rattle.session_core.specs.Machine.{SiteStands, IsTold, opened_with};
 use crate::commits::CommitEnd;
 use crate::stops::Stop;
 use crate::{Parts, SiteCore};
-use tardis_base::{Begin, EndFlags, Item, Key, NoMemory, Reply, Request, Value, Write};
+use tardis_base::{Begin, EndFlags, Item, Key, NoMemory, Reply, Request, StateList, Value, Write};
 
 impl Parts {
     /// Answers the actor's request by its own method.
@@ -80,7 +80,8 @@ impl Parts {
         requires { StandsForSite self.old }
         ensures { Answers self.old self.new result (λ site. step site actor (Request.Commit flags k)) }
     {
-        let end = self.commit(actor, flags, k)?;
+        let mut told = StateList::new(self.alloc);
+        let end = self.commit(actor, flags, k, &mut told)?;
         Ok(commit_reply(end))
     }
 

@@ -36,13 +36,15 @@ use site_exchange::WaitRoom;
 use std::alloc::Global;
 use std::hash::RandomState;
 use std::marker::Model;
-use tardis_base::{Limits, NoMemory};
+use tardis_base::{Limits, NoMemory, StateList};
 use transactions::TxnBook;
 
 /// One site: its history, its sessions, its open transactions, and what waits.
 #[derive(Drop)]
 pub struct SiteCore {
     parts: Parts,
+    /// What a reply told last of a commit's parents. The next one is told in its memory.
+    told: StateList,
 }
 
 impl Model for SiteCore {
@@ -73,7 +75,8 @@ impl SiteCore {
         ensures sound { IfOk result (λ _. IsSound (opening limits own)) }
     {
         let parts = Parts::new(alloc, keys, &limits, own)?;
-        Ok(SiteCore { parts })
+        let told = StateList::new(alloc);
+        Ok(SiteCore { parts, told })
     }
 
     /// The store of its history, to be read.

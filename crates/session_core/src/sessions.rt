@@ -54,8 +54,21 @@ impl Parts {
         self.begin_at(actor, slot)
     }
 
-    /// The slot of the state at which the session is to begin.
+    /// The slot of the state at which the session is to begin. For `Any` that is the state that arrived last, whatever the
+    /// session, which then isn't looked up.
     fn choose(&self, actor: u16, begin: &Begin) -> Result<Slot, BeginFault>
+        requires { IsTrue (is_open self.now.book actor) }
+        ensures slot { IfOk result (λ slot. IsTrue (is_slot self.now.store.table slot)) }
+        ensures chosen { ChoosesFor self.now actor begin.now result }
+    {
+        match *begin {
+            Begin::Any => Ok(self.store.dag().last()),
+            _ => self.choose_for(actor, begin),
+        }
+    }
+
+    /// The slot of the state at which the session is to begin, by its last commit and its ceiling.
+    fn choose_for(&self, actor: u16, begin: &Begin) -> Result<Slot, BeginFault>
         requires { IsTrue (is_open self.now.book actor) }
         ensures slot { IfOk result (λ slot. IsTrue (is_slot self.now.store.table slot)) }
         ensures chosen { ChoosesFor self.now actor begin.now result }

@@ -12,7 +12,7 @@ use ceiling_book::CeilingBook;
 use record_store::RecordStore;
 use site_exchange::WaitRoom;
 use std::alloc::Global;
-use tardis_base::NoMemory;
+use tardis_base::{NoMemory, StateList};
 
 impl SiteCore {
     /// The site at rest that stands on this store and this book: no session, and nothing that waits. The room for what waits is
@@ -29,7 +29,8 @@ impl SiteCore {
         ensures opening { IfOk result (λ core. opened_with core ≡ opening store.table.limits book.own) }
     {
         let parts = Parts::resting(alloc, store, book)?;
-        Ok(SiteCore { parts })
+        let told = StateList::new(alloc);
+        Ok(SiteCore { parts, told })
     }
 }
 
