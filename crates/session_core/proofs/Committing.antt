@@ -23,6 +23,7 @@ use Rattle.plain_dag.specs.Landing.{landing, guarded, broken}
 use Rattle.plain_dag.specs.Entries.{entry_of, changed, without_entry}
 use Rattle.plain_dag.specs.Floors.{after_commit, is_closed}
 use Rattle.plain_dag.specs.Growth.{growth_refusal}
+use Rattle.plain_dag.proofs.Order.{above-reflexive}
 use Rattle.state_dag.specs.Table.{Table, id_at}
 use Rattle.state_dag.specs.Answers.{KeepsSlots, MayBeAdded}
 use Rattle.state_dag.specs.Stands.{Stands}

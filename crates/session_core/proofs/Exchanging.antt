@@ -24,6 +24,7 @@ use Rattle.plain_dag.specs.Above.{is_above}
 use Rattle.plain_dag.specs.Conflicts.{open_conflict}
 use Rattle.plain_dag.specs.Floors.{Floor, floor_of, with_floor, is_closed}
 use Rattle.plain_dag.specs.Growth.{growth_refusal}
+use Rattle.plain_dag.proofs.Order.{above-reflexive}
 use Rattle.state_dag.specs.Table.{id_at}
 use Rattle.state_dag.specs.Answers.{KeepsSlots, MayBeAdded}
 use Rattle.record_store.specs.Store.{Store}

@@ -21,6 +21,7 @@ use Rattle.plain_dag.specs.Conflicts.{open_conflict}
 use Rattle.plain_dag.specs.Dag.{IsDag}
 use Rattle.plain_dag.specs.Floors.{Floor, floor_of, with_floor, consented, is_closed}
 use Rattle.plain_dag.specs.Growth.{growth_refusal}
+use Rattle.plain_dag.proofs.Order.{above-reflexive}
 use Rattle.record_store.specs.Answers.{MayArrive}
 use Rattle.ceiling_book.specs.declared.consents.ConsentEnd.{ConsentEnd}
 use Rattle.ceiling_book.specs.declared.consents.ConsentEnd.TheVariants.{Applied as IsTaken, Known as WasKnown, Early as CameEarly, Refused as WasRefused}
