@@ -21,6 +21,8 @@ mod of_log_text;
 #[cfg(test)]
 mod of_shell_text;
 #[cfg(test)]
+mod of_site_checkpoint;
+#[cfg(test)]
 mod of_site_run;
 #[cfg(test)]
 mod of_socket_links;
