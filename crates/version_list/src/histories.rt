@@ -224,9 +224,19 @@ impl KeyLists {
     pub(crate) fn versions(&self, key: &Key) -> &[Version]
         ensures { result.now ≡ versions_in self.now key.now }
     {
-        match self.lists.get(key) {
+        match self.history(key) {
             Some(history) => history.as_slice(),
             None => &[],
+        }
+    }
+
+    /// What is listed for the key, if it is. It is looked for first where the key stands that was given room last.
+    fn history(&self, key: &Key) -> Option<&History>
+        ensures { option_copied result ≡ listed_in self.now key.now }
+    {
+        match self.lists.get_index(self.last) {
+            Some((there, history)) if there == key => Some(history),
+            _ => self.lists.get(key),
         }
     }
 
