@@ -8,6 +8,7 @@ pub mod Places
 pub mod Promotes
 pub mod Handed
 pub mod Chunks
+pub mod Rows
 pub mod Moves
 pub mod Seated
 pub mod Joins

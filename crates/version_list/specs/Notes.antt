@@ -1,5 +1,5 @@
 -- The keys noted for each state, in chunks.
-use Rattle.std.specs.Prelude.{ℕ, Bool, ◌==◌, ◌+◌, not, List, [], ◌∷◌, is_some, length}
+use Rattle.std.specs.Prelude.{ℕ, Bool, ◌==◌, ◌+◌, ◌&&◌, not, List, [], ◌∷◌, ◌++◌, is_some, length, nat_lt, nat_le}
 use Rattle.std.specs.List.{list_all, list_any}
 use Rattle.std.specs.Map.{lookup}
 use Rattle.std.specs.Option.{option_map_or}
@@ -9,6 +9,25 @@ use Rattle.tardis_base.specs.Keys.{is_key_among}
 -- chunks of keys
 abbrev pub Chunks : Type 0
 Chunks = List (List (List ℕ))
+
+-- chunks at the slots from this number on, one after another
+abbrev pub in_a_row : ℕ → List Chunks → List (Slot × Chunks)
+in_a_row n [] = []
+in_a_row n (c ∷ cs) = (let slot : Slot = record { 0 = n } in (slot, c)) ∷ in_a_row (n + 1) cs
+
+-- the chunks of the slots from 1 on, in a row, and those of others; for how many more slots there is room
+pub record Table : Type 0 where
+  pub row : List Chunks
+  pub others : List (Slot × Chunks)
+  pub room : ℕ
+
+-- each slot with its chunks: those of the row come first
+abbrev pub entries_in : Table → List (Slot × Chunks)
+entries_in t = in_a_row 1 t.row ++ t.others
+
+-- the slot stands in the row
+abbrev pub is_in_row : Slot → List Chunks → Bool
+is_in_row slot row = nat_lt 0 slot.0 && nat_le slot.0 (length row)
 
 -- for each slot its chunks; for how many more slots and for how many more chunks there is room; how many chunks were made
 pub record Noted : Type 0 where

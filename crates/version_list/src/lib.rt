@@ -1,6 +1,7 @@
 //! The versions of each key, and the one that is read at a state.
 #![tactic(auto)]
 
+mod chunk_tables;
 mod histories;
 mod notes;
 mod seats;

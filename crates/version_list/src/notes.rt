@@ -6,7 +6,7 @@ ghost use Rattle.std.specs.Map.{lookup};
 ghost use Rattle.tardis_base.specs.declared.ids.Slot.{Slot};
 ghost use Rattle.version_list.specs.Notes.{same_slot, is_key_in, chunks_for, chunks_in, is_noted_in, are_full, chunks_of};
 
-use indexmap::IndexMap;
+use crate::chunk_tables::ChunkTable;
 use std::alloc::Global;
 use std::collections::LinkedList;
 use std::marker::Model;
@@ -26,7 +26,7 @@ const MOST_SLOTS: usize = 0xffff_fff0;
 #[derive(Drop)]
 pub(crate) struct Notes {
     /// By slot. Where a state has gone no keys are left, and the next one there takes the place.
-    chunks: IndexMap<Slot, KeyChunks>,
+    chunks: ChunkTable,
     /// What is lent of a state for which nothing was noted.
     none: KeyChunks,
     /// The chunk of the next state, without its keys, once it was made.
@@ -37,14 +37,13 @@ pub(crate) struct Notes {
 
 impl Model for Notes {
     ghost use Rattle.std.specs.Prelude.{◌≡◌, ◌+◌, ◌≤◌, ◌^◌, length, [], IsTrue};
-    ghost use Rattle.indexmap.specs.IndexMap.{spare};
-    ghost use Rattle.version_list.specs.Notes.{Noted, chunks_in, are_all_full};
+    ghost use Rattle.version_list.specs.Notes.{Noted, chunks_in, are_all_full, entries_in};
 
     ghost Value = { Noted };
 
-    ghost view = { λ s. record { by_slot = s.chunks.entries; states = spare s.chunks; chunks = length s.next; made = s.made } };
+    ghost view = { λ s. record { by_slot = entries_in s.chunks; states = s.chunks.room; chunks = length s.next; made = s.made } };
 
-    ghost invariant = { λ s. (s.none ≡ []) × (length s.next ≤ 1) × (chunks_in s.chunks.entries + length s.next ≤ s.made) × (s.made ≤ 4611686018427387904) × IsTrue (are_all_full s.chunks.entries) };
+    ghost invariant = { λ s. (s.none ≡ []) × (length s.next ≤ 1) × (chunks_in (entries_in s.chunks) + length s.next ≤ s.made) × (s.made ≤ 4611686018427387904) × IsTrue (are_all_full (entries_in s.chunks)) };
 }
 
 impl Notes {
@@ -53,7 +52,7 @@ impl Notes {
         ensures { result.by_slot ≡ [] }
     {
         Notes {
-            chunks: IndexMap::new(alloc),
+            chunks: ChunkTable::new(alloc),
             none: LinkedList::new(alloc),
             next: LinkedList::new(alloc),
             made: 0,
@@ -66,7 +65,7 @@ impl Notes {
         ensures states { OnOk result (0 < self.new.states) }
         ensures chunk { OnOk result (0 < self.new.chunks) }
     {
-        self.chunks.reserve(1)?;
+        self.chunks.make_room()?;
         if self.next.is_empty() {
             if self.made >= MOST {
                 return Err(NoMemory);
@@ -87,17 +86,14 @@ impl Notes {
     {
         let alloc = *self.next.allocator();
         let chunk = mem::replace(&mut self.next, LinkedList::new(alloc));
-        match self.chunks.insert(slot, filled(chunk, keys)) {
-            Ok(_) => {},
-            Err(_) => unreachable!(),
-        }
+        self.chunks.put(slot, filled(chunk, keys));
     }
 
     /// The chunks of the keys noted for the state, in constant time.
     pub(crate) fn at(&self, slot: Slot) -> &KeyChunks
         ensures { result.now ≡ chunks_for slot self.now.by_slot }
     {
-        match self.chunks.get(&slot) {
+        match self.chunks.get(slot) {
             Some(chunks) => chunks,
             None => &self.none,
         }
@@ -122,14 +118,16 @@ impl Notes {
         ensures others { (q : Slot) → (q ≡ slot → ⊥) → chunks_for q self.new.by_slot ≡ chunks_for q self.old.by_slot }
         ensures noted { (q : Slot) → is_noted_in q self.new.by_slot ≡ is_noted_in q self.old.by_slot }
         ensures count { chunks_in self.new.by_slot + length result + self.new.chunks ≤ self.new.made }
+        ensures same { chunks_in self.new.by_slot + length result ≡ chunks_in self.old.by_slot }
+        ensures room { self.new.chunks ≡ self.old.chunks }
+        ensures made { self.new.made ≡ self.old.made }
+        ensures most { self.new.made ≤ 4611686018427387904 }
         ensures full { IsTrue (are_full result) }
     {
-        match self.chunks.get_mut(&slot) {
-            Some(chunks) => {
-                let alloc = *chunks.allocator();
-                mem::replace(chunks, LinkedList::new(alloc))
-            },
-            None => LinkedList::new(*self.none.allocator()),
+        let alloc = *self.none.allocator();
+        match self.chunks.replace(slot, LinkedList::new(alloc)) {
+            Some(chunks) => chunks,
+            None => LinkedList::new(alloc),
         }
     }
 
@@ -142,13 +140,12 @@ impl Notes {
         ensures others { (q : Slot) → (q ≡ slot → ⊥) → chunks_for q self.new.by_slot ≡ chunks_for q self.old.by_slot }
         ensures noted { (q : Slot) → is_noted_in q self.new.by_slot ≡ is_noted_in q self.old.by_slot }
     {
-        match self.chunks.get_mut(&slot) {
-            Some(own) => match own.append(&mut chunks) {
-                Ok(()) => {},
-                Err(_) => unreachable!(),
-            },
-            None => unreachable!(),
+        let mut own = self.take(slot);
+        match own.append(&mut chunks) {
+            Ok(()) => {},
+            Err(_) => unreachable!(),
         }
+        drop(self.chunks.replace(slot, own));
     }
 }
 
