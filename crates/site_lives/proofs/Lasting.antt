@@ -16,8 +16,8 @@ use Rattle.site_lives.specs.declared.lives.NewLife.{NewLife}
 use Rattle.site_lives.specs.Lives.{is_of_lives}
 use Rattle.site_lives.specs.Acquainted.{Acquainted, about_lives, with_news, acquainted_machine}
 use Rattle.site_lives.specs.Laws.{others, replies_to_others}
-use Rattle.site_lives.specs.Things.{LastingThing, OfSite, OfLives, OfRow, all_at_rest, thing_of_event, with_thing, fits_thing, replay_things, all_things_fit}
-use Rattle.site_lives.specs.RestLaws.{things_of_answers, of_site, is_no_row, have_no_row, NoRowLasts, SiteIsReplayed, SiteFits, SiteHasItsThings, AllIsReplayed, LedTo, FrontsAreOfFronts}
+use Rattle.site_lives.specs.Things.{LastingThing, OfSite, OfLives, OfRow, OfCheckpoint, OfEnd, all_at_rest, thing_of_event, with_thing, fits_thing, replay_things, all_things_fit}
+use Rattle.site_lives.specs.RestLaws.{things_of_answers, of_site, is_of_request, are_of_requests, NothingShorterLasts, SiteIsReplayed, SiteFits, SiteHasItsThings, AllIsReplayed, LedTo, FrontsAreOfFronts}
 use Rattle.site_lives.proofs.Trails.{step-lives, step-site, reply-site, out-events, in-events, out-replies, in-replies}
 
 -- ===== The site's own things
@@ -27,6 +27,8 @@ site-is-replayed a [] own = refl
 site-is-replayed a (OfSite l ∷ ts) own = site-is-replayed (with_thing (OfSite l) a) ts own
 site-is-replayed a (OfLives new ∷ ts) own = site-is-replayed (with_thing (OfLives new) a) ts own
 site-is-replayed a (OfRow n count ∷ ts) own = absurd (let bad : ⊥ = cc in bad)
+site-is-replayed a (OfCheckpoint p ∷ ts) own = absurd (let bad : ⊥ = cc in bad)
+site-is-replayed a (OfEnd floors ∷ ts) own = absurd (let bad : ⊥ = cc in bad)
 
 pub site-fits : SiteFits
 site-fits a [] own fit = refl
@@ -39,6 +41,8 @@ site-fits a (OfLives new ∷ ts) own fit =
     let parts = and_parts (fits_thing a (OfLives new)) (all_things_fit next ts) fit in
     site-fits next ts own parts.1
 site-fits a (OfRow n count ∷ ts) own fit = absurd (let bad : ⊥ = cc in bad)
+site-fits a (OfCheckpoint p ∷ ts) own fit = absurd (let bad : ⊥ = cc in bad)
+site-fits a (OfEnd floors ∷ ts) own fit = absurd (let bad : ⊥ = cc in bad)
 
 -- ===== One event
 
@@ -51,7 +55,7 @@ site-thing a e f = cond-false (is_of_lives e.1) (option_map OfLives (about_lives
 -- the event, as one about lives or as one to the site
 pub about-or-not : (a : Acquainted) (e : Event) (P : Acquainted → Option LastingThing → Type 0) →
     (IsTrue (is_of_lives e.1) → P (with_news (about_lives a e.1).1 a) (option_map OfLives (about_lives a e.1).1)) →
-    (IsFalse (is_of_lives e.1) → P (record { site = site_machine.step a.site e; lives = a.lives }) (option_map OfSite (lasting_of_event a.site e))) →
+    (IsFalse (is_of_lives e.1) → P (record a { site = site_machine.step a.site e }) (option_map OfSite (lasting_of_event a.site e))) →
     P (acquainted_machine.step a e) (thing_of_event a e)
 about-or-not a e P lives site =
     elim (cases_Bool (is_of_lives e.1)) [
@@ -60,7 +64,7 @@ about-or-not a e P lives site =
           (subst (λ (o : Option LastingThing). P (with_news (about_lives a e.1).1 a) o) (sym (about-lives-thing a e t)) (lives t))
       | inr f ↦
           subst (λ (s : Acquainted). P s (thing_of_event a e)) (sym (step-site site_machine a e f))
-          (subst (λ (o : Option LastingThing). P (record { site = site_machine.step a.site e; lives = a.lives }) o) (sym (site-thing a e f)) (site f))
+          (subst (λ (o : Option LastingThing). P (record a { site = site_machine.step a.site e }) o) (sym (site-thing a e f)) (site f))
     ]
 
 -- what it adds
@@ -76,9 +80,9 @@ thing-adds a e =
     news (Some new) = refl
 
     own : (o : Option Lasting) → replay (option_to_list o) (at_rest a.site) ≡ at_rest (site_machine.step a.site e) →
-        replay_things (option_to_list (option_map OfSite o)) (all_at_rest a) ≡ all_at_rest (record { site = site_machine.step a.site e; lives = a.lives })
-    own None adds = ap (λ (s : Site). record { site = s; lives = a.lives }) adds
-    own (Some l) adds = ap (λ (s : Site). record { site = s; lives = a.lives }) adds
+        replay_things (option_to_list (option_map OfSite o)) (all_at_rest a) ≡ all_at_rest (record a { site = site_machine.step a.site e })
+    own None adds = ap (λ (s : Site). record a { site = s }) adds
+    own (Some l) adds = ap (λ (s : Site). record a { site = s }) adds
 
 -- a reply never says that memory is wanting
 pub told-otherwise : (a : Acquainted) (e : Event) → acquainted_machine.reply a e ≡ no_memory → ⊥
@@ -109,33 +113,33 @@ done-things a e es y ys is =
     cond-false (bytes_eq y no_memory) (things_of_answers a es ys)
     (option_to_list (thing_of_event a e) ++ things_of_answers (acquainted_machine.step a e) es ys) other
 
--- of an event no row lasts
-thing-is-no_row : (a : Acquainted) (e : Event) → IsTrue (have_no_row (option_to_list (thing_of_event a e)))
-thing-is-no_row a e =
-    about-or-not a e (λ next o. IsTrue (have_no_row (option_to_list o))) (λ t. news (about_lives a e.1).1) (λ f. own (lasting_of_event a.site e))
+-- of an event no row lasts, no part and no end of a checkpoint
+thing-is-of-request : (a : Acquainted) (e : Event) → IsTrue (are_of_requests (option_to_list (thing_of_event a e)))
+thing-is-of-request a e =
+    about-or-not a e (λ next o. IsTrue (are_of_requests (option_to_list o))) (λ t. news (about_lives a e.1).1) (λ f. own (lasting_of_event a.site e))
   where
-    news : (new : Option NewLife) → IsTrue (have_no_row (option_to_list (option_map OfLives new)))
+    news : (new : Option NewLife) → IsTrue (are_of_requests (option_to_list (option_map OfLives new)))
     news None = refl
     news (Some new) = refl
 
-    own : (o : Option Lasting) → IsTrue (have_no_row (option_to_list (option_map OfSite o)))
+    own : (o : Option Lasting) → IsTrue (are_of_requests (option_to_list (option_map OfSite o)))
     own None = refl
     own (Some l) = refl
 
-pub no-row-lasts : NoRowLasts
-no-row-lasts a [] [] = refl
-no-row-lasts a [] (y ∷ ys) = refl
-no-row-lasts a (e ∷ es) [] = refl
-no-row-lasts a (e ∷ es) (y ∷ ys) =
+pub nothing-shorter-lasts : NothingShorterLasts
+nothing-shorter-lasts a [] [] = refl
+nothing-shorter-lasts a [] (y ∷ ys) = refl
+nothing-shorter-lasts a (e ∷ es) [] = refl
+nothing-shorter-lasts a (e ∷ es) (y ∷ ys) =
     let undone = things_of_answers a es ys in
     let next = acquainted_machine.step a e in
     let later = things_of_answers next es ys in
     let first = option_to_list (thing_of_event a e) in
     elim (cases_Bool (bytes_eq y no_memory)) [
-      | inl t ↦ subst (λ ts. IsTrue (have_no_row ts)) (sym (cond-true (bytes_eq y no_memory) undone (first ++ later) t)) (no-row-lasts a es ys)
+      | inl t ↦ subst (λ ts. IsTrue (are_of_requests ts)) (sym (cond-true (bytes_eq y no_memory) undone (first ++ later) t)) (nothing-shorter-lasts a es ys)
       | inr f ↦
-          subst (λ ts. IsTrue (have_no_row ts)) (sym (cond-false (bytes_eq y no_memory) undone (first ++ later) f))
-          (list_all-append is_no_row first later ∙ and_from (have_no_row first) (have_no_row later) (thing-is-no_row a e) (no-row-lasts next es ys))
+          subst (λ ts. IsTrue (are_of_requests ts)) (sym (cond-false (bytes_eq y no_memory) undone (first ++ later) f))
+          (list_all-append is_of_request first later ∙ and_from (are_of_requests first) (are_of_requests later) (thing-is-of-request a e) (nothing-shorter-lasts next es ys))
     ]
 
 pub replay-appended : (first more : List LastingThing) (a : Acquainted) → replay_things (first ++ more) a ≡ replay_things more (replay_things first a)
@@ -243,6 +247,8 @@ of-site-appended [] more = refl
 of-site-appended (OfSite l ∷ first) more = ap (λ ls. l ∷ ls) (of-site-appended first more)
 of-site-appended (OfLives new ∷ first) more = of-site-appended first more
 of-site-appended (OfRow n count ∷ first) more = of-site-appended first more
+of-site-appended (OfCheckpoint p ∷ first) more = of-site-appended first more
+of-site-appended (OfEnd floors ∷ first) more = of-site-appended first more
 
 of-news : (new : Option NewLife) → of_site (option_to_list (option_map OfLives new)) ≡ []
 of-news None = refl

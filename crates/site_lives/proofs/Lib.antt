@@ -4,6 +4,7 @@ pub mod Trails
 pub mod Once
 pub mod Lasting
 pub mod Larger
+pub mod Ahead
 pub mod Fitting
 pub mod Spelled
 pub mod Onward

@@ -16,7 +16,7 @@ use Rattle.plain_site.specs.RestSpellings.{is_lasting}
 use Rattle.site_lives.specs.declared.lives.NewLife.{NewLife}
 use Rattle.site_lives.specs.Lives.{Life, Lives, life_of, with_life, fits_life}
 use Rattle.site_lives.specs.Acquainted.{Acquainted, acquainted_machine}
-use Rattle.site_lives.specs.Things.{LastingThing, OfSite, OfLives, OfRow, all_at_rest, thing_of_event, with_thing, fits_thing, replay_things, all_things_fit}
+use Rattle.site_lives.specs.Things.{LastingThing, OfSite, OfLives, OfRow, OfCheckpoint, OfEnd, all_at_rest, thing_of_event, with_thing, fits_thing, replay_things, all_things_fit}
 use Rattle.site_lives.specs.Things.{thing_spelling, is_thing, are_things, all_spellings}
 use Rattle.site_lives.specs.Bytes.{TakesBack}
 use Rattle.site_lives.specs.RestLaws.{OwnCameFirst, BytesLeaveAtRest, BytesGoOn, BytesKeepOrder, AdditionsGoOn, EventsGoOn}
@@ -108,6 +108,8 @@ thing-keeps-order a (OfSite (News (Promise c))) fit ordered = ordered
 thing-keeps-order a (OfSite (Collection count)) fit ordered = ordered
 thing-keeps-order a (OfLives new) fit ordered = life-keeps-order a.site.own a.site.limits.sites a.lives new fit ordered
 thing-keeps-order a (OfRow n count) fit ordered = ordered
+thing-keeps-order a (OfCheckpoint p) fit ordered = ordered
+thing-keeps-order a (OfEnd floors) fit ordered = ordered
 
 things-keep-order : (a : Acquainted) (ts : List LastingThing) → IsTrue (all_things_fit a ts) → OwnCameFirst a → OwnCameFirst (replay_things ts a)
 things-keep-order a [] fit ordered = ordered
@@ -144,7 +146,7 @@ one-taken a next o each adds = record {
 
 pub additions-go-on : AdditionsGoOn
 additions-go-on a next o each adds =
-    one-taken a (record { site = next; lives = a.lives }) (option_map OfSite o) (thing o each)
+    one-taken a (record a { site = next }) (option_map OfSite o) (thing o each)
     (added o adds)
   where
     thing : (o : Option Lasting) → ((l : Lasting) → o ≡ Some l → IsTrue (is_lasting l) × IsTrue (fits (at_rest a.site) l)) →
@@ -154,9 +156,9 @@ additions-go-on a next o each adds =
         subst (λ (k : LastingThing). IsTrue (is_thing k) × IsTrue (fits_thing (all_at_rest a) k)) (same_Some (OfSite l) t e) (each l refl)
 
     added : (o : Option Lasting) → replay (option_to_list o) (at_rest a.site) ≡ at_rest next →
-        replay_things (option_to_list (option_map OfSite o)) (all_at_rest a) ≡ all_at_rest (record { site = next; lives = a.lives })
-    added None adds = ap (λ (s : Site). record { site = s; lives = a.lives }) adds
-    added (Some l) adds = ap (λ (s : Site). record { site = s; lives = a.lives }) adds
+        replay_things (option_to_list (option_map OfSite o)) (all_at_rest a) ≡ all_at_rest (record a { site = next })
+    added None adds = ap (λ (s : Site). record a { site = s }) adds
+    added (Some l) adds = ap (λ (s : Site). record a { site = s }) adds
 
 pub events-go-on : RequestsHaveOneSpelling → IntroductionsHaveOneSpelling → EventsGoOn
 events-go-on read one a e small sound ordered =

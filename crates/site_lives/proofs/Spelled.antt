@@ -1,21 +1,27 @@
 -- What lasts is read as it is spelled, and taken back in one way.
-use Rattle.std.proofs.Common.{◌≡◌, ℕ, List, [], ◌∷◌, ◌++◌, Some, IsTrue, refl, sym, ap, ◌∙◌}
+use Rattle.std.proofs.Common.{◌≡◌, ℕ, List, [], ◌∷◌, ◌++◌, length, ◌&&◌, Some, IsTrue, refl, sym, ap, ◌∙◌, arith}
 use Rattle.std.specs.Prelude.{nat_le}
+use Rattle.std.specs.List.{list_all}
 use Rattle.std.proofs.lemmas.Bool.{and_parts, and_from}
 use Rattle.tardis_base.specs.declared.records.Item.TheVariants.{State, Promise}
+use Rattle.tardis_base.specs.Sizes.{most_sites}
 use Rattle.tardis_base.specs.Valid.{is_u32, are_bytes}
 use Rattle.wire_item.specs.Spellings.{u32_spelling}
+use Rattle.wire_item.specs.Valid.{is_u8}
 use Rattle.wire_item.specs.Fronts.{only_if}
 use Rattle.wire_item.specs.Readings.{u32_front}
 use Rattle.wire_item.proofs.Fronts.{some-parts}
-use Rattle.wire_item.proofs.Ways.{Reads, reads-both, reads-made, reads-only_if, row-made, by_code-only, made-back}
-use Rattle.wire_item.proofs.Numbers.{reads-u16, reads-u32}
-use Rattle.wire_item.proofs.Things.{reads-record, reads-consent}
+use Rattle.wire_item.proofs.Ways.{Reads, reads-both, reads-made, reads-only_if, reads-counted, many-times, row-made, by_code-only, made-back}
+use Rattle.wire_item.proofs.Numbers.{reads-u8, reads-u16, reads-u32}
+use Rattle.wire_item.proofs.Things.{fits, reads-id, reads-record, reads-consent}
 use Rattle.wire_lives.proofs.Laws.{reads-life}
+use Rattle.plain_dag.specs.Floors.{Floor}
 use Rattle.plain_site.specs.Rest.{News, Collection}
 use Rattle.plain_site.specs.RestSpellings.{is_count}
-use Rattle.site_lives.specs.Things.{LastingThing, OfSite, OfLives, OfRow, life_spelling, row_spelling, thing_spelling, is_new_life, is_row, is_thing, life_front}
-use Rattle.site_lives.specs.Things.{row_front, thing_rows, thing_front}
+use Rattle.plain_checkpoint.specs.Checkpoints.{ToldState, ToldLine, ToldGone}
+use Rattle.site_lives.specs.Things.{LastingThing, OfSite, OfLives, OfRow, OfCheckpoint, OfEnd, life_spelling, row_spelling, floor_spelling, floors_spelling}
+use Rattle.site_lives.specs.Things.{thing_spelling, is_new_life, is_row, is_floor, are_floors, is_thing, life_front, row_front, floor_front, floors_front}
+use Rattle.site_lives.specs.Things.{thing_rows, thing_front}
 use Rattle.site_lives.specs.Things.{are_things, all_spellings, replay_things}
 use Rattle.site_lives.specs.RestLaws.{OneWayBack}
 
@@ -31,6 +37,19 @@ reads-new-life =
 reads-row : Reads is_row row_spelling row_front
 reads-row = reads-both reads-u16 reads-u32
 
+reads-floor : Reads is_floor floor_spelling floor_front
+reads-floor =
+    reads-made (λ p. record { state = p.0.0; number = p.0.1; stated = p.1 }) (λ f. ((f.state, f.number), f.stated)) is_floor floor_spelling
+    (λ f h. refl) (λ p. refl) (λ p. refl) (reads-both (reads-both reads-id reads-u32) reads-u32)
+
+floors-counted : (fs : List Floor) → IsTrue (are_floors fs) → IsTrue (is_u8 (length fs) && list_all is_floor fs)
+floors-counted fs h =
+    let parts = and_parts (nat_le (length fs) most_sites) (list_all is_floor fs) h in
+    and_from (is_u8 (length fs)) (list_all is_floor fs) (fits (length fs) 16 256 parts.0 (omega arith)) parts.1
+
+reads-floors : Reads are_floors floors_spelling floors_front
+reads-floors = reads-only_if are_floors are_floors (λ fs h. (floors-counted fs h, h)) (λ fs v t. t) (reads-counted reads-u8 (many-times reads-floor))
+
 pub reads-thing : Reads is_thing thing_spelling thing_front
 reads-thing = record {
   back = back;
@@ -42,7 +61,19 @@ reads-thing = record {
         row-made is_thing thing_spelling 3 (λ n. OfSite (Collection n)) reads-count (λ n h. h) (λ n. refl),
         (
           row-made is_thing thing_spelling 4 OfLives reads-new-life (λ new h. h) (λ new. refl),
-          (row-made is_thing thing_spelling 5 (λ row. OfRow row.0 row.1) reads-row (λ row h. h) (λ row. refl), tt),
+          (
+            row-made is_thing thing_spelling 5 (λ row. OfRow row.0 row.1) reads-row (λ row h. h) (λ row. refl),
+            (
+              row-made is_thing thing_spelling 6 (λ r. OfCheckpoint (ToldState r)) reads-record (λ r h. h) (λ r. refl),
+              (
+                row-made is_thing thing_spelling 7 (λ row. OfCheckpoint (ToldLine row.0 row.1)) reads-row (λ row h. h) (λ row. refl),
+                (
+                  row-made is_thing thing_spelling 8 (λ x. OfCheckpoint (ToldGone x)) reads-id (λ x h. h) (λ x. refl),
+                  (row-made is_thing thing_spelling 9 OfEnd reads-floors (λ fs h. h) (λ fs. refl), tt),
+                ),
+              ),
+            ),
+          ),
         ),
       ),
     ),
@@ -56,6 +87,10 @@ reads-thing = record {
     back (OfSite (Collection n)) rest h = made-back reads-count (λ n. OfSite (Collection n)) n rest h
     back (OfLives new) rest h = made-back reads-new-life OfLives new rest h
     back (OfRow n count) rest h = made-back reads-row (λ row. OfRow row.0 row.1) (n, count) rest h
+    back (OfCheckpoint (ToldState r)) rest h = made-back reads-record (λ r. OfCheckpoint (ToldState r)) r rest h
+    back (OfCheckpoint (ToldLine n count)) rest h = made-back reads-row (λ row. OfCheckpoint (ToldLine row.0 row.1)) (n, count) rest h
+    back (OfCheckpoint (ToldGone x)) rest h = made-back reads-id (λ x. OfCheckpoint (ToldGone x)) x rest h
+    back (OfEnd fs) rest h = made-back reads-floors OfEnd fs rest h
 
     bytes : (t : LastingThing) → IsTrue (is_thing t) → IsTrue (are_bytes (thing_spelling t))
     bytes (OfSite (News (State r))) h = reads-record.bytes r h
@@ -63,6 +98,10 @@ reads-thing = record {
     bytes (OfSite (Collection n)) h = reads-count.bytes n h
     bytes (OfLives new) h = reads-new-life.bytes new h
     bytes (OfRow n count) h = reads-row.bytes (n, count) h
+    bytes (OfCheckpoint (ToldState r)) h = reads-record.bytes r h
+    bytes (OfCheckpoint (ToldLine n count)) h = reads-row.bytes (n, count) h
+    bytes (OfCheckpoint (ToldGone x)) h = reads-id.bytes x h
+    bytes (OfEnd fs) h = reads-floors.bytes fs h
 
 -- ===== Several
 
@@ -73,6 +112,10 @@ starts (OfSite (News (Promise c))) more e = absurd (cc)
 starts (OfSite (Collection n)) more e = absurd (cc)
 starts (OfLives new) more e = absurd (cc)
 starts (OfRow n count) more e = absurd (cc)
+starts (OfCheckpoint (ToldState r)) more e = absurd (cc)
+starts (OfCheckpoint (ToldLine n count)) more e = absurd (cc)
+starts (OfCheckpoint (ToldGone x)) more e = absurd (cc)
+starts (OfEnd fs) more e = absurd (cc)
 
 front-of-all : (t : LastingThing) (ts : List LastingThing) (bytes : List ℕ) → IsTrue (are_things (t ∷ ts)) → bytes ≡ all_spellings (t ∷ ts) →
     thing_front bytes ≡ Some (t, all_spellings ts)

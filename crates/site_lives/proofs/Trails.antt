@@ -15,13 +15,20 @@ module _ (m : PlainMachine Site) where
     of-lives = with_news (about_lives a e.1).1 a
 
     abbrev of-site : Acquainted
-    of-site = record { site = m.step a.site e; lives = a.lives }
+    of-site = record a { site = m.step a.site e }
 
     pub step-lives : IsTrue (is_of_lives e.1) → (acquainted m).step a e ≡ of-lives
     step-lives t = cond-true (is_of_lives e.1) of-lives of-site t
 
     pub step-site : IsFalse (is_of_lives e.1) → (acquainted m).step a e ≡ of-site
     step-site f = cond-false (is_of_lives e.1) of-lives of-site f
+
+    step-told : ((acquainted m).step a e).told ≡ a.told
+    step-told =
+        elim (cases_Bool (is_of_lives e.1)) [
+          | inl t ↦ ap (λ (s : Acquainted). s.told) (step-lives t)
+          | inr f ↦ ap (λ (s : Acquainted). s.told) (step-site f)
+        ]
 
     pub reply-site : IsFalse (is_of_lives e.1) → (acquainted m).reply a e ≡ m.reply a.site e
     reply-site f = cond-false (is_of_lives e.1) (about_lives a e.1).0 (m.reply a.site e) f
@@ -41,6 +48,7 @@ module _ (m : PlainMachine Site) where
     lives = λ a e f. ap (λ (s : Acquainted). s.lives) (step-site a e f);
     step = λ a e f. ap (λ (s : Acquainted). s.site) (step-site a e f);
     reply = λ a e f. reply-site a e f;
+    told = step-told;
   }
 
   pub lives-stay : LivesStay m

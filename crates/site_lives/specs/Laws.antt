@@ -12,12 +12,13 @@ use Rattle.site_lives.specs.Acquainted.{Acquainted, acquainted}
 -- ===== One step
 
 -- a request about lives leaves the site as it is; every other one leaves the lives as they are, and is to the site what it is to a
--- site that knows none
+-- site that knows none; and none changes what a checkpoint has told
 pub record EachHasItsOwn (m : PlainMachine Site) : Type 0 where
   pub site : (a : Acquainted) (e : Event) → IsTrue (is_of_lives e.1) → ((acquainted m).step a e).site ≡ a.site
   pub lives : (a : Acquainted) (e : Event) → IsFalse (is_of_lives e.1) → ((acquainted m).step a e).lives ≡ a.lives
   pub step : (a : Acquainted) (e : Event) → IsFalse (is_of_lives e.1) → ((acquainted m).step a e).site ≡ m.step a.site e
   pub reply : (a : Acquainted) (e : Event) → IsFalse (is_of_lives e.1) → (acquainted m).reply a e ≡ m.reply a.site e
+  pub told : (a : Acquainted) (e : Event) → ((acquainted m).step a e).told ≡ a.told
 
 -- ===== Trails
 

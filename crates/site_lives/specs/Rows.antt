@@ -1,17 +1,20 @@
 -- Worked rows: what the first of two sites answers when it is to meet others.
-use Rattle.std.specs.Prelude.{◌≡◌, ℕ, true, false, List, [], ◌∷◌, map, codes}
+use Rattle.std.specs.Prelude.{◌≡◌, ℕ, true, false, List, [], ◌∷◌, ◌++◌, map, codes}
 use Rattle.tardis_base.specs.declared.ids.StateId.{StateId}
+use Rattle.tardis_base.specs.declared.records.Record.{Record}
 use Rattle.tardis_base.specs.declared.records.Item.TheVariants.{State, Promise}
 use Rattle.tardis_base.specs.declared.records.Write.TheVariants.{Put}
 use Rattle.tardis_base.specs.Ids.{root}
 use Rattle.tardis_base.specs.Plain.{Event}
 use Rattle.plain_dag.specs.Collection.{kept_states}
+use Rattle.plain_dag.specs.Floors.{unpromised}
 use Rattle.plain_site.specs.Site.{opening}
 use Rattle.plain_site.specs.RowWords.{◌·◌, program_limits}
 use Rattle.plain_site.specs.Rest.{News, Collection}
 use Rattle.plain_site.specs.RowByteWords.{hex, ByteLine, ◌sends◌=>◌}
+use Rattle.plain_checkpoint.specs.Checkpoints.{ToldState, ToldLine, ToldGone, untold}
 use Rattle.site_lives.specs.Acquainted.{Acquainted, unacquainted, acquainted_machine}
-use Rattle.site_lives.specs.Things.{LastingThing, OfSite, OfLives, OfRow, replay_things, all_things_fit, all_spellings}
+use Rattle.site_lives.specs.Things.{LastingThing, OfSite, OfLives, OfRow, OfCheckpoint, OfEnd, replay_things, all_things_fit, all_spellings}
 use Rattle.site_lives.specs.Bytes.{lasting_bytes}
 
 -- the replies to the requests of these lines, one after another
@@ -124,3 +127,32 @@ RecordsStandBehindRows =
     × (all_things_fit site things ≡ true)
     × (kept_states behind.dag behind.collected ≡ (1 · 3) ∷ (1 · 4) ∷ [])
     × (all_things_fit site (OfRow 1 3 ∷ fourth_below (1 · 2) ∷ []) ≡ false)
+
+-- A checkpoint of two sites: the first one makes a state below the root, and two more below that; all but the last are gone. It ends
+-- with the floors: the first site promised one there, under the number 1. The site stays as it opened until then; then nothing more
+-- is told, and the last state is kept.
+abbrev pub CheckpointsAreTakenBack : Type 0
+CheckpointsAreTakenBack =
+    let site = unacquainted (opening (program_limits 2) 1) in
+    let made : Record = record { id = 1 · 1; parents = root ∷ []; writes = [] } in
+    let parts = OfCheckpoint (ToldState made) ∷ OfCheckpoint (ToldLine 1 2) ∷ OfCheckpoint (ToldGone root) ∷ [] in
+    let end = OfEnd (record { state = 1 · 3; number = 1; stated = 3 } ∷ unpromised (1 · 3) ∷ []) ∷ [] in
+    let told = replay_things parts site in
+    let behind = replay_things end told in
+    let end_at_root = OfEnd (unpromised root ∷ unpromised root ∷ []) in
+    let promise = OfSite (News (Promise (record { site = 1; number = 1; floor = root; count = 0 }))) in
+    (all_spellings parts ≡ hex "06 0001 00000001 01 0000 00000000 00 07 0001 00000002 08 0000 00000000")
+    × (all_spellings end ≡ hex "09 02 0001 00000003 00000001 00000003 0001 00000003 00000000 00000000")
+    × (all_things_fit site (parts ++ end) ≡ true)
+    × (told.site ≡ site.site)
+    × (behind.told ≡ untold)
+    × (kept_states behind.site.dag behind.site.collected ≡ (1 · 3) ∷ [])
+    -- where nothing was told, the end is that of a site that opens; but behind a state, a promise or another end no end fits
+    × ((replay_things (end_at_root ∷ []) site).site ≡ site.site)
+    × (all_things_fit site (end_at_root ∷ []) ≡ true)
+    × (all_things_fit site (OfSite (News (State made)) ∷ end_at_root ∷ []) ≡ false)
+    × (all_things_fit site (promise ∷ end_at_root ∷ []) ≡ false)
+    × (all_things_fit site (parts ++ end ++ parts ++ end) ≡ false)
+    -- nor does one whose floors don't fit what was told, or a part that doesn't
+    × (all_things_fit site (parts ++ end_at_root ∷ []) ≡ false)
+    × (all_things_fit site (OfCheckpoint (ToldGone root) ∷ []) ≡ false)

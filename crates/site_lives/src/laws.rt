@@ -6,8 +6,8 @@ ghost use Rattle.site_lives.specs.Laws.{EachHasItsOwn, SiteHasItsTrail, LivesSta
 
 use wire_lives::introductions_have_one_spelling;
 
-/// Requests about lives leave the site as it is, and all others the lives. So what the site is asked beside them is one trail of
-/// the site alone, and what is true of the trails of sites is true of a site that meets others.
+/// Requests about lives leave the site as it is, and all others the lives; none changes what a checkpoint has told. So what the site
+/// is asked beside them is one trail of the site alone, and what is true of the trails of sites is true of a site that meets others.
 pub fn meetings_leave_the_site()
     ensures own { (m : PlainMachine Site) → EachHasItsOwn m }
     ensures trail { (m : PlainMachine Site) → SiteHasItsTrail m }

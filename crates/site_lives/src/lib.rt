@@ -15,6 +15,6 @@ pub use lasting_laws::{
 pub use laws::{meetings_leave_the_site, one_life_is_met_of_each_site};
 pub use lives::{Lives, NewLife, is_of_lives};
 pub use rows::{
-    empty_rows_move_the_floors, lives_outlast_the_site, meetings_are_answered,
-    records_stand_behind_rows, rows_are_taken_back,
+    checkpoints_are_taken_back, empty_rows_move_the_floors, lives_outlast_the_site,
+    meetings_are_answered, records_stand_behind_rows, rows_are_taken_back,
 };

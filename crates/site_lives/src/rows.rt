@@ -1,6 +1,6 @@
 //! Worked rows. Each call does nothing.
 
-ghost use Rattle.site_lives.specs.Rows.{MeetingsAreAnswered, LivesOutlastTheSite, RowsAreTakenBack, EmptyRowsMoveTheFloors, RecordsStandBehindRows};
+ghost use Rattle.site_lives.specs.Rows.{MeetingsAreAnswered, LivesOutlastTheSite, RowsAreTakenBack, EmptyRowsMoveTheFloors, RecordsStandBehindRows, CheckpointsAreTakenBack};
 
 /// What the first of two sites answers when it is to meet others.
 pub fn meetings_are_answered()
@@ -25,4 +25,9 @@ pub fn empty_rows_move_the_floors()
 /// The record of a state below the last one of a row.
 pub fn records_stand_behind_rows()
     ensures { RecordsStandBehindRows }
+{}
+
+/// A checkpoint in bytes, what a site makes of it, and where no end of one fits.
+pub fn checkpoints_are_taken_back()
+    ensures { CheckpointsAreTakenBack }
 {}

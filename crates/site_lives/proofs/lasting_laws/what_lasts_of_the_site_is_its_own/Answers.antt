@@ -1,8 +1,8 @@
-use Rattle.site_lives.proofs.Lasting.{no-row-lasts, site-is-replayed, site-fits, site-has-its-things}
+use Rattle.site_lives.proofs.Lasting.{nothing-shorter-lasts, site-is-replayed, site-fits, site-has-its-things}
 use Rattle.site_lives.proofs.lasting_laws.what_lasts_of_the_site_is_its_own.Goals as goal
 
-pub returns-clause-no_rows : goal.returns-clause-no_rows
-returns-clause-no_rows c = no-row-lasts
+pub returns-clause-nothing_shorter : goal.returns-clause-nothing_shorter
+returns-clause-nothing_shorter c = nothing-shorter-lasts
 
 pub returns-clause-replayed : goal.returns-clause-replayed
 returns-clause-replayed c = site-is-replayed
