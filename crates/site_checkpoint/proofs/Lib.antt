@@ -2,3 +2,4 @@
 pub mod Closed
 pub mod Parts
 pub mod Arriving
+pub mod Ending

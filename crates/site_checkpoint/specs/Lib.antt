@@ -5,3 +5,4 @@ pub mod Held
 pub mod Takes
 pub mod Arrivals
 pub mod Floors
+pub mod Ends

@@ -13,8 +13,10 @@ ghost use Rattle.site_checkpoint.specs.Stands.{LoadedStands, StandsForTold};
 ghost use Rattle.site_checkpoint.specs.Takes.{TakesPart, UntakenAs};
 
 mod arrivals;
+mod ends;
 mod floors;
 
+pub use ends::ToldFloor;
 use record_store::RecordStore;
 use state_dag::RowFault;
 use std::alloc::Global;
