@@ -1,11 +1,9 @@
 //! A step's thing in bytes. Rules are stated in `docs/FORMATS.md`.
 
-ghost use Rattle.std.specs.Prelude.{◌≤◌, ◌+◌, vec_len, vec_capacity};
-ghost use Rattle.rest_machine.specs.Rests.{most_lasting};
+ghost use Rattle.std.specs.Prelude.{◌≤◌, vec_len, vec_capacity};
 
-use crate::steps::{EarlyPromise, Step, Telling, Told};
+use crate::steps::{Step, Telling, Told};
 use crate::versions::{VersionPlace, first_of};
-use rest_machine::MAX_LASTING;
 use session_core::SiteCore;
 use site_lives::Lives;
 use tardis_base::{Found, MAX_PARENTS, MAX_WRITES, StateId};
@@ -57,51 +55,63 @@ fn put_id(id: StateId, limit: usize, body: &mut Vec<u8>)
     put_u32(id.sequence, limit, body);
 }
 
-/// Puts the thing of this step behind the bytes, in room that is there.
+/// Puts the part of this step behind the bytes.
 pub(crate) fn put_step(
     core: &SiteCore,
-    lives: &Lives,
     telling: &Telling,
     versions: &[VersionPlace],
-    number: usize,
+    step: Step,
+    limit: usize,
     body: &mut Vec<u8>,
 )
-    requires room { vec_len body.old + most_lasting ≤ vec_capacity body.old }
-    ensures few { vec_len body.new ≤ vec_len body.old + most_lasting }
-    ensures capacity { vec_capacity body.old ≤ vec_capacity body.new }
-{
-    let limit = body.len() + MAX_LASTING;
-    match telling.step(number) {
-        Some(Step::Row { site, count }) => put_row(site, count, limit, body),
-        Some(Step::Record(told)) => put_record(core, telling, versions, &told, limit, body),
-        Some(Step::Early(promise)) => put_early(&promise, limit, body),
-        Some(Step::Promise(site)) => put_promise(core, site, limit, body),
-        Some(Step::Collection(count)) => put_collection(count, limit, body),
-        Some(Step::Life(site)) => put_life(lives, site, limit, body),
-        None => {},
-    }
-}
-
-fn put_row(site: u16, count: u32, limit: usize, body: &mut Vec<u8>)
     requires { limit ≤ vec_capacity body.old }
     ensures few { vec_len body.old ≤ limit → vec_len body.new ≤ limit }
     ensures capacity { vec_capacity body.old ≤ vec_capacity body.new }
 {
-    put_u8(5, limit, body);
+    match step {
+        Step::Record(told) => put_record(core, telling, versions, &told, limit, body),
+        Step::Line { site, count } => put_line(site, count, limit, body),
+        Step::Gone(id) => put_gone(id, limit, body),
+    }
+}
+
+fn put_line(site: u16, count: u32, limit: usize, body: &mut Vec<u8>)
+    requires { limit ≤ vec_capacity body.old }
+    ensures few { vec_len body.old ≤ limit → vec_len body.new ≤ limit }
+    ensures capacity { vec_capacity body.old ≤ vec_capacity body.new }
+{
+    put_u8(7, limit, body);
     put_u16(site, limit, body);
     put_u32(count, limit, body);
 }
 
-fn put_collection(count: u32, limit: usize, body: &mut Vec<u8>)
+fn put_gone(id: StateId, limit: usize, body: &mut Vec<u8>)
     requires { limit ≤ vec_capacity body.old }
     ensures few { vec_len body.old ≤ limit → vec_len body.new ≤ limit }
     ensures capacity { vec_capacity body.old ≤ vec_capacity body.new }
 {
-    put_u8(3, limit, body);
-    put_u32(count, limit, body);
+    put_u8(8, limit, body);
+    put_id(id, limit, body);
 }
 
-fn put_life(lives: &Lives, site: u16, limit: usize, body: &mut Vec<u8>)
+/// Puts what is known of each site's floor.
+pub(crate) fn put_end(core: &SiteCore, limit: usize, body: &mut Vec<u8>)
+    requires { limit ≤ vec_capacity body.old }
+    ensures few { vec_len body.old ≤ limit → vec_len body.new ≤ limit }
+    ensures capacity { vec_capacity body.old ≤ vec_capacity body.new }
+{
+    let floors = core.book().floors();
+    put_u8(9, limit, body);
+    put_u8(u8::try_from(floors.len()).unwrap_or(u8::MAX), limit, body);
+    for floor in floors {
+        put_id(floor.place.state, limit, body);
+        put_u32(floor.number, limit, body);
+        put_u32(floor.stated, limit, body);
+    }
+}
+
+/// Puts the life of the site.
+pub(crate) fn put_life(lives: &Lives, site: u16, limit: usize, body: &mut Vec<u8>)
     requires { limit ≤ vec_capacity body.old }
     ensures few { vec_len body.old ≤ limit → vec_len body.new ≤ limit }
     ensures capacity { vec_capacity body.old ≤ vec_capacity body.new }
@@ -110,35 +120,6 @@ fn put_life(lives: &Lives, site: u16, limit: usize, body: &mut Vec<u8>)
         put_u8(4, limit, body);
         put_u16(site, limit, body);
         put(&life, limit, body);
-    }
-}
-
-fn put_early(promise: &EarlyPromise, limit: usize, body: &mut Vec<u8>)
-    requires { limit ≤ vec_capacity body.old }
-    ensures few { vec_len body.old ≤ limit → vec_len body.new ≤ limit }
-    ensures capacity { vec_capacity body.old ≤ vec_capacity body.new }
-{
-    put_u8(2, limit, body);
-    put_u16(promise.site, limit, body);
-    put_u32(promise.number, limit, body);
-    put_id(promise.floor, limit, body);
-    put_u32(0, limit, body);
-}
-
-fn put_promise(core: &SiteCore, site: u16, limit: usize, body: &mut Vec<u8>)
-    requires { limit ≤ vec_capacity body.old }
-    ensures few { vec_len body.old ≤ limit → vec_len body.new ≤ limit }
-    ensures capacity { vec_capacity body.old ≤ vec_capacity body.new }
-{
-    if site == 0 {
-        return;
-    }
-    if let Some(floor) = core.book().floors().get(site as usize - 1) {
-        put_u8(2, limit, body);
-        put_u16(site, limit, body);
-        put_u32(floor.number, limit, body);
-        put_id(floor.place.state, limit, body);
-        put_u32(floor.stated, limit, body);
     }
 }
 
@@ -155,7 +136,7 @@ fn put_record(
     ensures few { vec_len body.old ≤ limit → vec_len body.new ≤ limit }
     ensures capacity { vec_capacity body.old ≤ vec_capacity body.new }
 {
-    put_u8(1, limit, body);
+    put_u8(6, limit, body);
     put_id(told.id, limit, body);
     let parents = told.parents.min(MAX_PARENTS);
     put_u8(parents as u8, limit, body);
@@ -185,41 +166,34 @@ fn put_writes(
     let count = own.saturating_add(told.keys).min(MAX_WRITES);
     put_u8(count as u8, limit, body);
     let mut read: usize = 0;
-    let mut deleted: usize = 0;
-    for _place in 0..count {
+    let mut place = told.first_key;
+    let mut beside = told.keys;
+    for _write in 0..count {
         let next = if read < own {
             versions.get(first.saturating_add(read))
         } else {
             None
         };
-        let other = other_key(telling, versions, told, deleted);
-        if is_first(next, other) {
+        let key = if beside > 0 {
+            telling.key_at(place)
+        } else {
+            None
+        };
+        if is_first(next, key) {
             read = read.saturating_add(1);
             put_read(core, next, limit, body);
-        } else {
-            deleted = deleted.saturating_add(1);
-            put_deleted(other, limit, body);
+        } else if let Some(key) = key {
+            place = place.saturating_add(key.len()).saturating_add(1);
+            beside = beside.saturating_sub(1);
+            put_deleted(key, limit, body);
         }
     }
 }
 
-/// The version of this number whose key the state writes beside.
-fn other_key<'a>(
-    telling: &Telling,
-    versions: &'a [VersionPlace],
-    told: &Told,
-    number: usize,
-) -> Option<&'a VersionPlace> {
-    match telling.key(told, number) {
-        Some(place) => versions.get(place),
-        None => None,
-    }
-}
-
-/// Whether the one is there, and its key stands before that of the other, or there is no other.
-fn is_first(one: Option<&VersionPlace>, other: Option<&VersionPlace>) -> bool {
+/// Whether the one is there, and its key stands before the other one, or there is no other.
+fn is_first(one: Option<&VersionPlace>, other: Option<&[u8]>) -> bool {
     match (one, other) {
-        (Some(one), Some(other)) => one.key < other.key,
+        (Some(one), Some(other)) => one.key.as_slice() < other,
         (Some(_), None) => true,
         (None, _) => false,
     }
@@ -235,17 +209,14 @@ fn put_read(core: &SiteCore, version: Option<&VersionPlace>, limit: usize, body:
     }
 }
 
-fn put_deleted(version: Option<&VersionPlace>, limit: usize, body: &mut Vec<u8>)
+fn put_deleted(key: &[u8], limit: usize, body: &mut Vec<u8>)
     requires { limit ≤ vec_capacity body.old }
     ensures few { vec_len body.old ≤ limit → vec_len body.new ≤ limit }
     ensures capacity { vec_capacity body.old ≤ vec_capacity body.new }
 {
-    if let Some(version) = version {
-        let key = version.key.as_slice();
-        put_u8(key.len() as u8, limit, body);
-        put(key, limit, body);
-        put_u8(0, limit, body);
-    }
+    put_u8(u8::try_from(key.len()).unwrap_or(u8::MAX), limit, body);
+    put(key, limit, body);
+    put_u8(0, limit, body);
 }
 
 /// How many versions of the writer stand from this place on; at most 64 are counted.

@@ -1,15 +1,7 @@
 //! The steps of a plan, each of which is one thing.
 
 use std::alloc::Global;
-use tardis_base::{NoMemory, Slot, StateId};
-
-/// A promise of a site, on its way to the one that is known.
-#[derive(Clone, Copy)]
-pub(crate) struct EarlyPromise {
-    pub(crate) site: u16,
-    pub(crate) number: u32,
-    pub(crate) floor: StateId,
-}
+use tardis_base::{NoMemory, StateId};
 
 /// A state that is told as a record: where its parents stand among those of all.
 #[derive(Clone, Copy)]
@@ -17,7 +9,7 @@ pub(crate) struct Told {
     pub(crate) id: StateId,
     pub(crate) first: usize,
     pub(crate) parents: usize,
-    /// Where the keys stand that it writes beside what is read of it, and how many there are.
+    /// Where the keys are spelled that it writes beside what is read of it, and how many there are.
     pub(crate) first_key: usize,
     pub(crate) keys: usize,
 }
@@ -25,12 +17,9 @@ pub(crate) struct Told {
 /// One thing.
 #[derive(Clone, Copy)]
 pub(crate) enum Step {
-    Row { site: u16, count: u32 },
     Record(Told),
-    Early(EarlyPromise),
-    Promise(u16),
-    Collection(u32),
-    Life(u16),
+    Line { site: u16, count: u32 },
+    Gone(StateId),
 }
 
 /// The steps, and the parents of the states that are told as records.
@@ -38,8 +27,8 @@ pub(crate) enum Step {
 pub(crate) struct Telling {
     steps: Vec<Step>,
     parents: Vec<StateId>,
-    /// By the numbers of their versions.
-    keys: Vec<usize>,
+    /// Each behind its length.
+    keys: Vec<u8>,
 }
 
 impl Telling {
@@ -65,47 +54,57 @@ impl Telling {
         self.parents.get(told.first.saturating_add(number)).copied()
     }
 
-    /// No step any more.
-    pub(crate) fn clear(&mut self) {
-        self.steps.clear();
-        self.parents.clear();
-        self.keys.clear();
-    }
-
     pub(crate) fn push(&mut self, step: Step) -> Result<(), NoMemory> {
         self.steps.push(step)?;
         Ok(())
     }
 
-    /// The number of the version whose key the state writes too, of those in order.
-    pub(crate) fn key(&self, told: &Told, number: usize) -> Option<usize> {
-        if number < told.keys {
-            self.keys
-                .get(told.first_key.saturating_add(number))
-                .copied()
-        } else {
-            None
-        }
+    /// The key that is spelled from this place on.
+    pub(crate) fn key_at(&self, place: usize) -> Option<&[u8]> {
+        key_at(self.keys.as_slice(), place)
     }
 
-    /// A state below these, as a record, which writes the keys of these versions too.
+    /// Where keys are spelled next.
+    pub(crate) fn next_key(&self) -> usize {
+        self.keys.len()
+    }
+
+    /// Spells one key more.
+    pub(crate) fn push_key(&mut self, key: &[u8]) -> Result<(), NoMemory> {
+        self.keys.push(u8::try_from(key.len()).unwrap_or(u8::MAX))?;
+        self.keys.extend_from_slice(key)?;
+        Ok(())
+    }
+
+    /// A state below these, as a record, which writes so many keys too, which are spelled from that place on.
     pub(crate) fn push_record(
         &mut self,
         id: StateId,
         parents: &[StateId],
-        keys: &[usize],
+        first_key: usize,
+        keys: usize,
     ) -> Result<(), NoMemory> {
         let first = self.parents.len();
         self.parents.extend_from_slice(parents)?;
-        let first_key = self.keys.len();
-        self.keys.extend_from_slice(keys)?;
         let told = Told {
             id,
             first,
             parents: parents.len(),
             first_key,
-            keys: keys.len(),
+            keys,
         };
         self.push(Step::Record(told))
+    }
+}
+
+/// The key that is spelled from the place on, behind its length.
+pub(crate) fn key_at(keys: &[u8], place: usize) -> Option<&[u8]> {
+    let count = usize::from(*keys.get(place)?);
+    let first = place.saturating_add(1);
+    let end = first.saturating_add(count);
+    if first <= end && end <= keys.len() {
+        Some(&keys[first..end])
+    } else {
+        None
     }
 }

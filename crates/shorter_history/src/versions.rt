@@ -1,10 +1,10 @@
 //! The versions that are read at the kept states, by the states that wrote them.
 
-ghost use Rattle.std.specs.Prelude.{◌<◌, length, IfSome, IsTrue};
+ghost use Rattle.std.specs.Prelude.{◌≡◌, ◌<◌, length, IsTrue};
 ghost use Rattle.state_dag.specs.Table.{is_slot};
 
-use crate::asks::{count_kept, slot_at};
 use record_store::RecordStore;
+use state_dag::StateDag;
 use std::alloc::Global;
 use std::cmp::Ordering;
 use tardis_base::{Found, Key, NoMemory, Slot, StateId};
@@ -14,7 +14,6 @@ use tardis_base::{Found, Key, NoMemory, Slot, StateId};
 pub(crate) struct VersionPlace {
     pub(crate) writer: StateId,
     pub(crate) slot: Slot,
-    pub(crate) place: usize,
     pub(crate) key: Key,
 }
 
@@ -27,10 +26,25 @@ pub(crate) fn gather_versions(
 ) -> Result<Vec<VersionPlace>, NoMemory> {
     let mut versions = Vec::new(alloc);
     for place in 0..count_kept(store.dag()) {
-        gather_at(store, slot_at(store.dag(), place), place, &mut versions)?;
+        gather_at(store, slot_at(store.dag(), place), &mut versions)?;
     }
     versions.sort_unstable_by(order_of);
     Ok(versions)
+}
+
+/// How many states are kept.
+pub(crate) fn count_kept(dag: &StateDag) -> usize
+    ensures { result ≡ length dag.now.entries }
+{
+    dag.kept_slots().len()
+}
+
+/// The slot of the kept state at the place.
+fn slot_at(dag: &StateDag, place: usize) -> Slot
+    requires { place < length dag.now.entries }
+    ensures { IsTrue (is_slot dag.now result) }
+{
+    dag.kept_slots()[place]
 }
 
 /// The order of versions: by their writers, and of one writer by their keys.
@@ -45,13 +59,12 @@ fn order_of(one: &VersionPlace, other: &VersionPlace) -> Ordering {
 fn gather_at(
     store: &RecordStore,
     slot: Slot,
-    place: usize,
     versions: &mut Vec<VersionPlace>,
 ) -> Result<(), NoMemory>
     requires { IsTrue (is_slot store.now.table slot) }
 {
     for chunk in store.keys_at(slot) {
-        gather_keys(store, slot, place, chunk.as_slice(), versions)?;
+        gather_keys(store, slot, chunk.as_slice(), versions)?;
     }
     Ok(())
 }
@@ -60,7 +73,6 @@ fn gather_at(
 fn gather_keys(
     store: &RecordStore,
     slot: Slot,
-    place: usize,
     keys: &[Key],
     versions: &mut Vec<VersionPlace>,
 ) -> Result<(), NoMemory>
@@ -69,12 +81,7 @@ fn gather_keys(
     for key in keys {
         if let Some(writer) = writer_of(&store.read_at(slot, key)) {
             let key = key.copy()?;
-            versions.push(VersionPlace {
-                writer,
-                slot,
-                place,
-                key,
-            })?;
+            versions.push(VersionPlace { writer, slot, key })?;
         }
     }
     Ok(())
@@ -89,61 +96,21 @@ fn writer_of(found: &Found<'_>) -> Option<StateId> {
     }
 }
 
-/// Who wrote what is read of the key at the slot.
-pub(crate) fn writer_at(store: &RecordStore, slot: Slot, key: &Key) -> Option<StateId>
-    requires { IsTrue (is_slot store.now.table slot) }
-{
-    writer_of(&store.read_at(slot, key))
-}
-
-/// The number of the version of this key that the state wrote.
-pub(crate) fn number_of(versions: &[VersionPlace], writer: StateId, key: &Key) -> Option<usize>
-    ensures { IfSome result (λ number. number < length versions.now) }
-{
-    let number = versions.partition_point(|version| is_before(version, writer, key));
-    match versions.get(number) {
-        Some(version) if version.writer == writer && version.key == *key => Some(number),
-        _ => None,
-    }
-}
-
-/// Whether the version stands before that of this writer and key.
-fn is_before(version: &VersionPlace, writer: StateId, key: &Key) -> bool {
-    version.writer < writer || (version.writer == writer && version.key < *key)
-}
-
 /// The place of the first version of this writer, or of a later one.
 pub(crate) fn first_of(versions: &[VersionPlace], writer: StateId) -> usize {
     versions.partition_point(|version| version.writer < writer)
 }
 
-/// Whether the writer has a version among these.
-pub(crate) fn writes(versions: &[VersionPlace], writer: StateId) -> bool {
-    match versions.get(first_of(versions, writer)) {
-        Some(version) => version.writer == writer,
+/// Whether a version of this key by this writer is read.
+pub(crate) fn is_read(versions: &[VersionPlace], writer: StateId, key: &[u8]) -> bool {
+    let number = versions.partition_point(|version| is_before(version, writer, key));
+    match versions.get(number) {
+        Some(version) => version.writer == writer && version.key.as_slice() == key,
         None => false,
     }
 }
 
-/// Where a version is held, and its number among those by their writers.
-#[derive(Clone, Copy)]
-pub(crate) struct Holder {
-    pub(crate) place: usize,
-    pub(crate) number: usize,
-}
-
-/// The versions by the places where they are held.
-pub(crate) fn holders_of(
-    alloc: Global,
-    versions: &[VersionPlace],
-) -> Result<Vec<Holder>, NoMemory> {
-    let mut holders = Vec::new(alloc);
-    for number in 0..versions.len() {
-        holders.push(Holder {
-            place: versions[number].place,
-            number,
-        })?;
-    }
-    holders.sort_unstable_by_key(|holder| holder.place);
-    Ok(holders)
+/// Whether the version stands before that of this writer and key.
+fn is_before(version: &VersionPlace, writer: StateId, key: &[u8]) -> bool {
+    version.writer < writer || (version.writer == writer && version.key.as_slice() < key)
 }

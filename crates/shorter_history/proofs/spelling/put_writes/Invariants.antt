@@ -2,8 +2,8 @@ use Rattle.std.proofs.Common.{◌≤◌}
 use Rattle.std.specs.Prelude.{vec_len, vec_capacity}
 use Rattle.shorter_history.proofs.spelling.put_writes.Given as goal
 
-abbrev pub invariant-loop-place : goal.invariant-loop-place
-invariant-loop-place l = record {
+abbrev pub invariant-loop-write : goal.invariant-loop-write
+invariant-loop-write l = record {
   few : vec_len l.fn.body ≤ l.fn.limit → vec_len l.body ≤ l.fn.limit;
   room : vec_capacity l.fn.body ≤ vec_capacity l.body;
 }
