@@ -2,7 +2,9 @@
 pub mod Alike
 pub mod Counts
 pub mod Firsts
+pub mod FloorsRead
 pub mod Joined
+pub mod Loads
 pub mod Newest
 pub mod Putting
 pub mod Raised

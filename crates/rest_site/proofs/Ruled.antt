@@ -6,19 +6,20 @@ use Rattle.tardis_base.specs.Plain.{Event, PlainMachine}
 use Rattle.plain_site.specs.Site.{Site}
 use Rattle.plain_site.specs.Step.{site_machine}
 use Rattle.session_core.specs.Core.{Core}
-use Rattle.session_core.specs.Machine.{SiteStands}
+use Rattle.session_core.specs.Machine.{SiteStands, opened_with}
 use Rattle.join_rules.specs.declared.join_codes.TheConstants.{JOIN}
 use Rattle.join_rules.specs.Joins.{is_join, asked_to_join, joining}
 use Rattle.join_rules.specs.Laws.{behind_join}
 use Rattle.site_lives.specs.Lives.{is_of_lives}
 use Rattle.site_lives.specs.Acquainted.{Acquainted, about_lives, with_news}
 use Rattle.rest_site.specs.Oldest.{oldest_session, asks_oldest, oldest_told, telling}
-use Rattle.rest_site.specs.Stands.{CoreWithLives, and_lives, AcquaintedStands}
+use Rattle.rest_site.specs.Stands.{HeldSite, held_site, AcquaintedStands}
+use Rattle.rest_site.proofs.Loads.{goes-on-loading}
 use Rattle.rest_site.specs.Ruled.{ruled_machine}
 
--- the lives that it knows, with another site
+-- another site, with the lives that it knows and what was told
 abbrev moved_to : Acquainted → Site → Acquainted
-moved_to a site = record { site = site; lives = a.lives }
+moved_to a site = record a { site = site }
 
 -- all that isn't about lives
 abbrev asked_machine : PlainMachine Site
@@ -105,7 +106,7 @@ site-sure e f o g sure = go (is_of_lives e.1) (asks_oldest e.1) (is_join e.1) (s
 
 -- ===== In memory
 
-module _ (held : CoreWithLives) (e : Event) (f : IsFalse (is_of_lives e.1)) (t : IsTrue (asks_oldest e.1)) where
+module _ (held : HeldSite) (e : Event) (f : IsFalse (is_of_lives e.1)) (t : IsTrue (asks_oldest e.1)) where
   pub oldest-told : (out : List ℕ) → ((s : Site) → SiteStands held.core s → out ≡ oldest_told (oldest_session s)) →
       (a : Acquainted) → AcquaintedStands held a → out ≡ ruled_machine.reply a e
   oldest-told out told a stands = told a.site stands.0 ∙ oldest-reply a e f t
@@ -113,22 +114,28 @@ module _ (held : CoreWithLives) (e : Event) (f : IsFalse (is_of_lives e.1)) (t :
   pub oldest-moves : (a : Acquainted) → AcquaintedStands held a → AcquaintedStands held (ruled_machine.step a e)
   oldest-moves a stands = subst (λ (b : Acquainted). AcquaintedStands held b) (oldest-step a e f t) stands
 
-module _ (held : CoreWithLives) (new : Core) (e : Event) (f : IsFalse (is_of_lives e.1)) (o : IsFalse (asks_oldest e.1)) where
-  abbrev behind : CoreWithLives
-  behind = and_lives new held.lives
+module _ (held : HeldSite) (new : Core) (e : Event) (f : IsFalse (is_of_lives e.1)) (o : IsFalse (asks_oldest e.1)) where
+  abbrev behind : HeldSite
+  behind = held_site new held.lives held.loading
 
   pub join-told : (out : List ℕ) → IsTrue (is_join e.1) → ((s : Site) → SiteStands held.core s → out ≡ JOIN ∷ (asked_to_join s e.1).0 ∷ []) →
       (a : Acquainted) → AcquaintedStands held a → out ≡ ruled_machine.reply a e
   join-told out t told a stands = told a.site stands.0 ∙ join-reply a e f o t
 
   pub join-moves : IsTrue (is_join e.1) → ((s : Site) → SiteStands held.core s → SiteStands new (behind_join s e.1)) →
-      (a : Acquainted) → AcquaintedStands held a → AcquaintedStands behind (ruled_machine.step a e)
-  join-moves t moves a stands = subst (λ (b : Acquainted). AcquaintedStands behind b) (join-step a e f o t) (moves a.site stands.0, stands.1)
+      opened_with new ≡ opened_with held.core → (a : Acquainted) → AcquaintedStands held a → AcquaintedStands behind (ruled_machine.step a e)
+  join-moves t moves same a stands =
+      let next = moves a.site stands.0 in
+      subst (λ (b : Acquainted). AcquaintedStands behind b) (join-step a e f o t)
+      (next, stands.1, goes-on-loading held.core new a.site (behind_join a.site e.1) held.loading a.told stands.0 next same stands.2)
 
   pub site-told : (out : List ℕ) → IsFalse (is_join e.1) → ((s : Site) → SiteStands held.core s → out ≡ site_machine.reply s e) →
       (a : Acquainted) → AcquaintedStands held a → out ≡ ruled_machine.reply a e
   site-told out g told a stands = told a.site stands.0 ∙ site-reply a e f o g
 
   pub site-moves : IsFalse (is_join e.1) → ((s : Site) → SiteStands held.core s → SiteStands new (site_machine.step s e)) →
-      (a : Acquainted) → AcquaintedStands held a → AcquaintedStands behind (ruled_machine.step a e)
-  site-moves g moves a stands = subst (λ (b : Acquainted). AcquaintedStands behind b) (site-step a e f o g) (moves a.site stands.0, stands.1)
+      opened_with new ≡ opened_with held.core → (a : Acquainted) → AcquaintedStands held a → AcquaintedStands behind (ruled_machine.step a e)
+  site-moves g moves same a stands =
+      let next = moves a.site stands.0 in
+      subst (λ (b : Acquainted). AcquaintedStands behind b) (site-step a e f o g)
+      (next, stands.1, goes-on-loading held.core new a.site (site_machine.step a.site e) held.loading a.told stands.0 next same stands.2)

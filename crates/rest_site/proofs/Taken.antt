@@ -17,7 +17,7 @@ use Rattle.wire_item.specs.Readings.{u8_front}
 use Rattle.wire_item.proofs.Fronts.{some-parts}
 use Rattle.wire_item.proofs.Codes.{code-read, code-none}
 use Rattle.plain_dag.specs.Entries.{entry_of}
-use Rattle.plain_dag.specs.Floors.{Sessions}
+use Rattle.plain_dag.specs.Floors.{Sessions, Floor}
 use Rattle.ceiling_book.specs.Book.{sessions_of}
 use Rattle.plain_site.specs.Site.{Site, Txn}
 use Rattle.plain_site.specs.Sound.{IsSound}
@@ -28,18 +28,23 @@ use Rattle.rest_laws.proofs.Fitting.{what-fits-keeps-sound}
 use Rattle.site_lives.specs.declared.lives.NewLife.{NewLife}
 use Rattle.site_lives.specs.Lives.{Lives, with_life, fits_life}
 use Rattle.site_lives.specs.Acquainted.{Acquainted}
-use Rattle.site_lives.specs.Things.{LastingThing, OfSite, OfLives, OfRow, all_at_rest, with_thing, fits_thing, replay_things, all_things_fit, is_thing, thing_spelling}
+use Rattle.plain_checkpoint.specs.Checkpoints.{Told, untold, Part, ToldState, ToldLine, ToldGone, with_part}
+use Rattle.site_lives.specs.Things.{LastingThing, OfSite, OfLives, OfRow, OfCheckpoint, OfEnd, all_at_rest, with_thing, fits_thing, replay_things, all_things_fit, is_thing, thing_spelling}
 use Rattle.site_lives.specs.Things.{thing_rows, thing_front, are_things, all_spellings}
 use Rattle.site_lives.specs.Bytes.{TakesBack}
 use Rattle.site_lives.proofs.Spelled.{reads-thing}
 use Rattle.session_core.specs.Core.{Core}
-use Rattle.session_core.specs.Stands.{CoreStands, StandsForSite}
-use Rattle.session_core.specs.Machine.{SiteStands}
+use Rattle.session_core.specs.Stands.{CoreStands}
+use Rattle.session_core.specs.Machine.{SiteStands, opened_with}
 use Rattle.plain_rows.specs.Rows.{with_row}
 use Rattle.session_core.specs.Rests.{is_quiet, KeepsSound, Collects, TakesRow, RowTakenBy}
 use Rattle.session_core.specs.Rests.{TakenBy as TakenThere, TakesBack as TakesBackThere}
-use Rattle.rest_site.specs.Stands.{CoreWithLives, AcquaintedStands, and_lives}
-use Rattle.rest_site.specs.Takings.{lasting_of, state_front, promise_front, collection_front, new_life_front, new_row_front, IsRead, TakenBy, TakesThing, Leads}
+use Rattle.site_checkpoint.specs.Loaded.{Loaded}
+use Rattle.rest_site.specs.Stands.{HeldSite, LoadingStands, AcquaintedStands, StandsForSome, held_site}
+use Rattle.rest_site.specs.LoadedAlike.{under-same}
+use Rattle.rest_site.proofs.Loads.{goes-on-loading}
+use Rattle.rest_site.specs.Takings.{lasting_of, state_front, promise_front, collection_front, new_life_front, new_row_front, part_rows, IsRead, TakenBy, TakesThing, Leads}
+use Rattle.rest_site.specs.Takings.{told_front, line_front, gone_front, end_front, PartTakenBy, TakesPart, EndTakenBy}
 use Rattle.rest_site.specs.declared.things.Thing.{Thing}
 
 -- ===== At rest
@@ -52,11 +57,14 @@ still-rests site (Collection count) rests = ap (with_lasting (Collection count))
 
 thing-still-rests : (a : Acquainted) (t : LastingThing) → all_at_rest a ≡ a → all_at_rest (with_thing t a) ≡ with_thing t a
 thing-still-rests a (OfSite l) rests =
-    ap (λ (s : Site). record { site = s; lives = a.lives }) (still-rests a.site l (ap (λ (b : Acquainted). b.site) rests))
+    ap (λ (s : Site). record a { site = s }) (still-rests a.site l (ap (λ (b : Acquainted). b.site) rests))
 thing-still-rests a (OfLives new) rests =
-    ap (λ (s : Site). record { site = s; lives = with_life new.number new.life a.lives }) (ap (λ (b : Acquainted). b.site) rests)
+    ap (λ (s : Site). record { site = s; lives = with_life new.number new.life a.lives; told = a.told }) (ap (λ (b : Acquainted). b.site) rests)
 thing-still-rests a (OfRow n count) rests =
-    ap (λ (s : Site). record { site = with_row n count s; lives = a.lives }) (ap (λ (b : Acquainted). b.site) rests)
+    ap (λ (s : Site). record a { site = with_row n count s }) (ap (λ (b : Acquainted). b.site) rests)
+thing-still-rests a (OfCheckpoint p) rests =
+    ap (λ (s : Site). record { site = s; lives = a.lives; told = with_part p a.told }) (ap (λ (b : Acquainted). b.site) rests)
+thing-still-rests a (OfEnd floors) rests = refl
 
 pub none-there : {A : Type 0} (xs : List A) → length xs ≡ 0 → xs ≡ []
 none-there [] e = refl
@@ -89,8 +97,8 @@ quiet-rests core site quiet (stands, sound) =
     ∙ (ap (λ (ts : List (ℕ × Txn)). record site { txns = ts; waiting = [] }) (sym ended)
     ∙ ap (λ (rs : List Record). record site { waiting = rs }) (sym settled))
 
-pub all-quiet-rests : (held : CoreWithLives) (a : Acquainted) → is_quiet held.core ≡ true → AcquaintedStands held a → all_at_rest a ≡ a
-all-quiet-rests held a quiet stands = ap (λ (s : Site). record { site = s; lives = a.lives }) (quiet-rests held.core a.site quiet stands.0)
+pub all-quiet-rests : (held : HeldSite) (a : Acquainted) → is_quiet held.core ≡ true → AcquaintedStands held a → all_at_rest a ≡ a
+all-quiet-rests held a quiet stands = ap (λ (s : Site). record a { site = s }) (quiet-rests held.core a.site quiet stands.0)
 
 -- and one at rest is quiet
 pub rests-quiet : (core : Core) (site : Site) → CoreStands core site → at_rest site ≡ site → is_quiet core ≡ true
@@ -99,6 +107,11 @@ rests-quiet core site stands rests =
     let settled : length core.waiting ≡ 0 = ap length (stands.waiting ∙ ap (λ (s : Site). s.waiting) (sym rests)) in
     and_from (length (sessions_of core.book) == 0) (length core.waiting == 0) (eq-eqb (length (sessions_of core.book)) 0 closed)
     (eq-eqb (length core.waiting) 0 settled)
+
+-- so one that isn't quiet takes nothing back
+pub unquiet-refused : (held : HeldSite) → is_quiet held.core ≡ false → (a b : Acquainted) (bytes : List ℕ) → AcquaintedStands held a → TakesBack a bytes b → ⊥
+unquiet-refused held unquiet a b bytes stands took =
+    both_ways (is_quiet held.core) unquiet (rests-quiet held.core a.site stands.0.0 (ap (λ (c : Acquainted). c.site) took.rests))
 
 -- a promise that fits a site at rest keeps it sound
 pub quiet-keeps-sound : (core : Core) (c : Consent) → is_quiet core ≡ true → IsTrue (is_lasting (News (Promise c))) → KeepsSound core (News (Promise c))
@@ -176,63 +189,111 @@ read-shorter all left t read = go t (ap length (reads-thing.only all t left read
     go (OfSite (Collection n)) e = omega (arith, e, length-append (thing_spelling (OfSite (Collection n))) left)
     go (OfLives new) e = omega (arith, e, length-append (thing_spelling (OfLives new)) left)
     go (OfRow n count) e = omega (arith, e, length-append (thing_spelling (OfRow n count)) left)
+    go (OfCheckpoint (ToldState r)) e = omega (arith, e, length-append (thing_spelling (OfCheckpoint (ToldState r))) left)
+    go (OfCheckpoint (ToldLine n count)) e = omega (arith, e, length-append (thing_spelling (OfCheckpoint (ToldLine n count))) left)
+    go (OfCheckpoint (ToldGone x)) e = omega (arith, e, length-append (thing_spelling (OfCheckpoint (ToldGone x))) left)
+    go (OfEnd floors) e = omega (arith, e, length-append (thing_spelling (OfEnd floors)) left)
 
 -- ===== Taken by the site in memory
 
-module _ (old new : Core) (lives : Lives) where
-  pub thing-taken : (l : Lasting) (result : Result Bool NoMemory) → TakesBackThere old new l result →
-      TakesThing (and_lives old lives) (and_lives new lives) (OfSite l) result
-  thing-taken l result took = λ a stands. go a stands.1 result (took a.site stands.0)
-    where
-      go : (a : Acquainted) → lives ≡ a.lives → (taken : Result Bool NoMemory) → TakenThere new l a.site taken →
-          TakenBy (and_lives new lives) (OfSite l) a taken
-      go a same (Ok true) h = (h.0, (h.1, same))
-      go a same (Ok false) h = (h.0, record { site = a.site; stands = h.1.0; sound = h.1.1 })
-      go a same (Err fault) h = record { site = a.site; stands = h.0; sound = h.1 }
+module _ (old new : Core) (lives : Lives) (loading : Option Loaded) (opened : opened_with new ≡ opened_with old) where
+  abbrev before : HeldSite
+  before = held_site old lives loading
 
-  pub row-taken : (n count : ℕ) (result : Result Bool NoMemory) → TakesRow old new n count result →
-      TakesThing (and_lives old lives) (and_lives new lives) (OfRow n count) result
-  row-taken n count result took = λ a stands. go a stands.1 result (took a.site stands.0)
+  abbrev behind : HeldSite
+  behind = held_site new lives loading
+
+  -- another site stands then, beside the same lives and what is loaded
+  moves-on : (a : Acquainted) (site : Site) → AcquaintedStands before a → SiteStands new site → AcquaintedStands behind (record a { site = site })
+  moves-on a site stands next = (next, stands.1, goes-on-loading old new a.site site loading a.told stands.0 next opened stands.2)
+
+  some-moved : (a : Acquainted) (site : Site) → AcquaintedStands before a → SiteStands new site → StandsForSome new loading
+  some-moved a site stands next = record {
+    site = site;
+    told = a.told;
+    stands = next;
+    loads = goes-on-loading old new a.site site loading a.told stands.0 next opened stands.2;
+  }
+
+  pub thing-taken : (l : Lasting) (result : Result Bool NoMemory) → TakesBackThere old new l result → TakesThing before behind (OfSite l) result
+  thing-taken l result took = λ a stands. go a stands result (took a.site stands.0)
     where
-      go : (a : Acquainted) → lives ≡ a.lives → (taken : Result Bool NoMemory) → RowTakenBy new n count a.site taken →
-          TakenBy (and_lives new lives) (OfRow n count) a taken
-      go a same (Ok true) h = (h.0, (h.1, same))
-      go a same (Ok false) h = (h.0, record { site = a.site; stands = h.1.0; sound = h.1.1 })
-      go a same (Err fault) h = record { site = a.site; stands = h.0; sound = h.1 }
+      go : (a : Acquainted) → AcquaintedStands before a → (taken : Result Bool NoMemory) → TakenThere new l a.site taken →
+          TakenBy behind (OfSite l) a taken
+      go a stands (Ok true) h = (h.0, moves-on a (with_lasting l a.site) stands h.1)
+      go a stands (Ok false) h = (h.0, some-moved a a.site stands h.1)
+      go a stands (Err fault) h = some-moved a a.site stands h
+
+  pub row-taken : (n count : ℕ) (result : Result Bool NoMemory) → TakesRow old new n count result → TakesThing before behind (OfRow n count) result
+  row-taken n count result took = λ a stands. go a stands result (took a.site stands.0)
+    where
+      go : (a : Acquainted) → AcquaintedStands before a → (taken : Result Bool NoMemory) → RowTakenBy new n count a.site taken →
+          TakenBy behind (OfRow n count) a taken
+      go a stands (Ok true) h = (h.0, moves-on a (with_row n count a.site) stands h.1)
+      go a stands (Ok false) h = (h.0, some-moved a a.site stands h.1)
+      go a stands (Err fault) h = some-moved a a.site stands h
 
   -- as many were collected as there were to be, so it fits, or they were fewer
   pub collection-taken : (count told : ℕ) → IsTrue (is_lasting (Collection count)) → Collects old new count told →
-      TakesThing (and_lives old lives) (and_lives new lives) (OfSite (Collection count)) (Ok (told == count))
+      TakesThing before behind (OfSite (Collection count)) (Ok (told == count))
   collection-taken count told valid collects = λ a stands.
       let both = collects a.site stands.0 in
       let least = (and_parts (is_u32 count) (nat_le 1 count) valid).1 in
       elim (cases_Bool (told == count)) [
-        | inl t ↦ subst (λ (b : Bool). TakenBy (and_lives new lives) (OfSite (Collection count)) a (Ok b)) (sym t) (
+        | inl t ↦ subst (λ (b : Bool). TakenBy behind (OfSite (Collection count)) a (Ok b)) (sym t) (
           and_from (nat_le 1 count) (collected_by count a.site == count) least (eq-eqb (collected_by count a.site) count (sym both.1 ∙ eqb-true told count t)),
-          (both.0, stands.1),
+          moves-on a (with_lasting (Collection count) a.site) stands both.0,
         )
-        | inr f ↦ subst (λ (b : Bool). TakenBy (and_lives new lives) (OfSite (Collection count)) a (Ok b)) (sym f) (
+        | inr f ↦ subst (λ (b : Bool). TakenBy behind (OfSite (Collection count)) a (Ok b)) (sym f) (
           and_right (nat_le 1 count) (collected_by count a.site == count) (ap (λ n. n == count) (sym both.1) ∙ f),
-          record { site = with_lasting (Collection count) a.site; stands = both.0.0; sound = both.0.1 },
+          some-moved a (with_lasting (Collection count) a.site) stands both.0,
         )
       ]
 
+-- a part was told
+pub part-taken : (core : Core) (lives : Lives) (old new : Option Loaded) (p : Part) (result : Result Bool NoMemory) →
+    TakesPart core.store.table.limits old new p result → TakesThing (held_site core lives old) (held_site core lives new) (OfCheckpoint p) result
+part-taken core lives old new p result took = λ a stands.
+    let same = stands.0.0.limits in
+    go a stands result (subst (λ (l : Limits). PartTakenBy l new p a.told result) same
+    (took a.told (under-same a.site.limits core.store.table.limits old a.told (sym same) stands.2)))
+  where
+    go : (a : Acquainted) → AcquaintedStands (held_site core lives old) a → (taken : Result Bool NoMemory) → PartTakenBy a.site.limits new p a.told taken →
+        TakenBy (held_site core lives new) (OfCheckpoint p) a taken
+    go a stands (Ok true) h = (h.0, (stands.0, stands.1, h.1))
+    go a stands (Ok false) h = (h.0, record { site = a.site; told = a.told; stands = stands.0; loads = h.1 })
+    go a stands (Err fault) h = record { site = a.site; told = a.told; stands = stands.0; loads = h }
+
+-- the checkpoint ended
+pub end-taken : (old new : Core) (lives : Lives) (loading after : Option Loaded) (floors : List Floor) (result : Result Bool NoMemory) → after ≡ None →
+    ((site : Site) (t : Told) → SiteStands old site → LoadingStands site.limits loading t → EndTakenBy new floors site t result) →
+    TakesThing (held_site old lives loading) (held_site new lives after) (OfEnd floors) result
+end-taken old new lives loading after floors result none took = λ a stands.
+    subst (λ (l : Option Loaded). TakenBy (held_site new lives l) (OfEnd floors) a result) (sym none) (go a stands.1 result (took a.site a.told stands.0 stands.2))
+  where
+    go : (a : Acquainted) → lives ≡ a.lives → (taken : Result Bool NoMemory) → EndTakenBy new floors a.site a.told taken →
+        TakenBy (held_site new lives None) (OfEnd floors) a taken
+    go a same (Ok true) h = (h.0, (h.1, same, refl))
+    go a same (Ok false) h = (h.0, record { site = a.site; told = untold; stands = h.1; loads = refl })
+    go a same (Err fault) h = record { site = a.site; told = untold; stands = h; loads = refl }
+
 -- a life was put where it fits, among so many sites
-module _ (core : Core) (old new : Lives) (own sites : ℕ) (life : NewLife) (number : own ≡ core.book.own) (many : sites ≡ core.store.table.limits.sites) where
-  fits-there : (a : Acquainted) → AcquaintedStands (and_lives core old) a → fits_life own sites old life ≡ fits_thing a (OfLives life)
+module _ (core : Core) (old new : Lives) (loading : Option Loaded) (own sites : ℕ) (life : NewLife) (number : own ≡ core.book.own)
+    (many : sites ≡ core.store.table.limits.sites) where
+  fits-there : (a : Acquainted) → AcquaintedStands (held_site core old loading) a → fits_life own sites old life ≡ fits_thing a (OfLives life)
   fits-there a stands =
       ap (λ n. fits_life n sites old life) (number ∙ stands.0.0.own)
       ∙ (ap (λ m. fits_life a.site.own m old life) (many ∙ ap (λ (l : Limits). l.sites) stands.0.0.limits)
       ∙ ap (λ ls. fits_life a.site.own a.site.limits.sites ls life) stands.1)
 
   pub life-taken : IsTrue (fits_life own sites old life) → new ≡ with_life life.number life.life old →
-      TakesThing (and_lives core old) (and_lives core new) (OfLives life) (Ok true)
+      TakesThing (held_site core old loading) (held_site core new loading) (OfLives life) (Ok true)
   life-taken fit is = λ a stands.
-      (sym (fits-there a stands) ∙ fit, (stands.0, is ∙ ap (with_life life.number life.life) stands.1))
+      (sym (fits-there a stands) ∙ fit, (stands.0, is ∙ ap (with_life life.number life.life) stands.1, stands.2))
 
-  pub life-refused : IsFalse (fits_life own sites old life) → TakesThing (and_lives core old) (and_lives core new) (OfLives life) (Ok false)
+  pub life-refused : IsFalse (fits_life own sites old life) → TakesThing (held_site core old loading) (held_site core new loading) (OfLives life) (Ok false)
   life-refused unfit = λ a stands.
-      (sym (fits-there a stands) ∙ unfit, record { site = a.site; stands = stands.0.0; sound = stands.0.1 })
+      (sym (fits-there a stands) ∙ unfit, record { site = a.site; told = a.told; stands = stands.0; loads = stands.2 })
 
 -- ===== Read
 
@@ -255,19 +316,31 @@ passed : (n : ℕ) (front : Front LastingThing) (code : ℕ) (rows : List (ℕ �
     front_of_code code ((n, front) ∷ rows) bytes ≡ front_of_code code rows bytes
 passed n front code rows bytes other = ap (λ (b : Bool). (if b then front else front_of_code code rows) bytes) other
 
--- a code of none of them
+-- a code of none before those of a checkpoint
 pub code-far : (code : ℕ) (bytes : List ℕ) → (code ≡ 1 → ⊥) → (code ≡ 2 → ⊥) → (code ≡ 3 → ⊥) → (code ≡ 4 → ⊥) → (code ≡ 5 → ⊥) →
-    front_of_code code thing_rows bytes ≡ None
+    front_of_code code thing_rows bytes ≡ front_of_code code part_rows bytes
 code-far code bytes one two three four five =
     let first : (1 == code) ≡ false = ne_eqb 1 code (λ e. one (sym e)) in
     let second : (2 == code) ≡ false = ne_eqb 2 code (λ e. two (sym e)) in
     let third : (3 == code) ≡ false = ne_eqb 3 code (λ e. three (sym e)) in
     let fourth : (4 == code) ≡ false = ne_eqb 4 code (λ e. four (sym e)) in
     let fifth : (5 == code) ≡ false = ne_eqb 5 code (λ e. five (sym e)) in
-    passed 1 state_front code ((2, promise_front) ∷ (3, collection_front) ∷ (4, new_life_front) ∷ (5, new_row_front) ∷ []) bytes first
-    ∙ (passed 2 promise_front code ((3, collection_front) ∷ (4, new_life_front) ∷ (5, new_row_front) ∷ []) bytes second
-    ∙ (passed 3 collection_front code ((4, new_life_front) ∷ (5, new_row_front) ∷ []) bytes third
-    ∙ (passed 4 new_life_front code ((5, new_row_front) ∷ []) bytes fourth ∙ passed 5 new_row_front code [] bytes fifth)))
+    passed 1 state_front code ((2, promise_front) ∷ (3, collection_front) ∷ (4, new_life_front) ∷ (5, new_row_front) ∷ part_rows) bytes first
+    ∙ (passed 2 promise_front code ((3, collection_front) ∷ (4, new_life_front) ∷ (5, new_row_front) ∷ part_rows) bytes second
+    ∙ (passed 3 collection_front code ((4, new_life_front) ∷ (5, new_row_front) ∷ part_rows) bytes third
+    ∙ (passed 4 new_life_front code ((5, new_row_front) ∷ part_rows) bytes fourth ∙ passed 5 new_row_front code part_rows bytes fifth)))
+
+-- nor of those
+pub part-far : (code : ℕ) (bytes : List ℕ) → (code ≡ 6 → ⊥) → (code ≡ 7 → ⊥) → (code ≡ 8 → ⊥) → (code ≡ 9 → ⊥) →
+    front_of_code code part_rows bytes ≡ None
+part-far code bytes six seven eight nine =
+    let sixth : (6 == code) ≡ false = ne_eqb 6 code (λ e. six (sym e)) in
+    let seventh : (7 == code) ≡ false = ne_eqb 7 code (λ e. seven (sym e)) in
+    let eighth : (8 == code) ≡ false = ne_eqb 8 code (λ e. eight (sym e)) in
+    let ninth : (9 == code) ≡ false = ne_eqb 9 code (λ e. nine (sym e)) in
+    passed 6 told_front code ((7, line_front) ∷ (8, gone_front) ∷ (9, end_front) ∷ []) bytes sixth
+    ∙ (passed 7 line_front code ((8, gone_front) ∷ (9, end_front) ∷ []) bytes seventh
+    ∙ (passed 8 gone_front code ((9, end_front) ∷ []) bytes eighth ∙ passed 9 end_front code [] bytes ninth))
 
 -- the thing that was read
 pub front-of-thing : (all left : List ℕ) (thing : Thing) → IsRead (thing_front all) (Some (Ok thing)) left → thing_front all ≡ Some (lasting_of thing, left)
@@ -276,7 +349,7 @@ front-of-thing all left thing read = read.1 ∙ ap (λ (t : LastingThing). Some 
 -- ===== One after another
 
 -- it was taken
-pub thing-leads : (old new : CoreWithLives) (all left : List ℕ) (t : LastingThing) → thing_front all ≡ Some (t, left) → TakesThing old new t (Ok true) →
+pub thing-leads : (old new : HeldSite) (all left : List ℕ) (t : LastingThing) → thing_front all ≡ Some (t, left) → TakesThing old new t (Ok true) →
     Leads old new all left
 thing-leads old new all left t read took = λ a stands rests.
     let taken = took a stands in (
@@ -290,11 +363,11 @@ thing-leads old new all left t read took = λ a stands rests.
     )
 
 -- nothing was taken yet
-pub nothing-leads : (held : CoreWithLives) (all : List ℕ) → Leads held held all all
+pub nothing-leads : (held : HeldSite) (all : List ℕ) → Leads held held all all
 nothing-leads held all = λ a stands rests. (a, stands, rests, λ behind. ((λ b. b), (λ b. b)))
 
 -- and one more
-pub leads-on : (old between new : CoreWithLives) (all some left : List ℕ) → Leads old between all some → Leads between new some left → Leads old new all left
+pub leads-on : (old between new : HeldSite) (all some left : List ℕ) → Leads old between all some → Leads between new some left → Leads old new all left
 leads-on old between new all some left first second = λ a stands rests.
     let to = first a stands rests in
     let last = second to.0 to.1 to.2 in (
@@ -307,32 +380,36 @@ leads-on old between new all some left first second = λ a stands rests.
       ),
     )
 
+-- a site that was known, with these lives
+abbrev known-before : (old : HeldSite) → StandsForSome old.core old.loading → Acquainted
+known-before old before = record { site = before.site; lives = old.lives; told = before.told }
+
 -- it was taken, so the site is quiet still
-pub thing-quiet : (old new : CoreWithLives) (t : LastingThing) → is_quiet old.core ≡ true → StandsForSite old.core → TakesThing old new t (Ok true) →
+pub thing-quiet : (old new : HeldSite) (t : LastingThing) → is_quiet old.core ≡ true → StandsForSome old.core old.loading → TakesThing old new t (Ok true) →
     is_quiet new.core ≡ true
 thing-quiet old new t quiet before took =
-    let a : Acquainted = record { site = before.site; lives = old.lives } in
-    let stands : AcquaintedStands old a = ((before.stands, before.sound), refl) in
+    let a = known-before old before in
+    let stands : AcquaintedStands old a = (before.stands, refl, before.loads) in
     rests-quiet new.core (with_thing t a).site (took a stands).1.0.0
     (ap (λ (b : Acquainted). b.site) (thing-still-rests a t (all-quiet-rests old a quiet stands)))
 
--- whatever came of it, it stands for a sound site
-pub thing-stands : (old new : CoreWithLives) (t : LastingThing) (result : Result Bool NoMemory) → StandsForSite old.core → TakesThing old new t result →
-    StandsForSite new.core
-thing-stands old new t result before took = go result (took a ((before.stands, before.sound), refl))
+-- whatever came of it, what is in memory stands for some sound site
+pub thing-stands : (old new : HeldSite) (t : LastingThing) (result : Result Bool NoMemory) → StandsForSome old.core old.loading → TakesThing old new t result →
+    StandsForSome new.core new.loading
+thing-stands old new t result before took = go result (took a (before.stands, refl, before.loads))
   where
     a : Acquainted
-    a = record { site = before.site; lives = old.lives }
+    a = known-before old before
 
-    go : (taken : Result Bool NoMemory) → TakenBy new t a taken → StandsForSite new.core
-    go (Ok true) h = record { site = (with_thing t a).site; stands = h.1.0.0; sound = h.1.0.1 }
+    go : (taken : Result Bool NoMemory) → TakenBy new t a taken → StandsForSome new.core new.loading
+    go (Ok true) h = record { site = (with_thing t a).site; told = (with_thing t a).told; stands = h.1.0; loads = h.1.2 }
     go (Ok false) h = h.1
     go (Err fault) h = h
 
 -- ===== All
 
 -- nothing is left: all was taken
-pub all-taken : (old new : CoreWithLives) (all left : List ℕ) → is_quiet old.core ≡ true → Leads old new all left → left ≡ [] →
+pub all-taken : (old new : HeldSite) (all left : List ℕ) → is_quiet old.core ≡ true → Leads old new all left → left ≡ [] →
     (a : Acquainted) → AcquaintedStands old a → (behind : Acquainted) × (TakesBack a all behind × AcquaintedStands new behind)
 all-taken old new all left quiet leads none a stands =
     let to = leads a stands (all-quiet-rests old a quiet stands) in
@@ -347,7 +424,7 @@ all-taken old new all left quiet leads none a stands =
     (to.0, ((to.3 to.0).1 done, to.1))
 
 -- what is left is refused
-pub all-refused : (old new : CoreWithLives) (all left : List ℕ) → Leads old new all left →
+pub all-refused : (old new : HeldSite) (all left : List ℕ) → Leads old new all left →
     ((a behind : Acquainted) → AcquaintedStands new a → TakesBack a left behind → ⊥) →
     (a behind : Acquainted) → AcquaintedStands old a → TakesBack a all behind → ⊥
 all-refused old new all left leads refused a behind stands took =

@@ -6,5 +6,6 @@ pub mod Joinings
 pub mod Oldest
 pub mod Ceilings
 pub mod Ruled
--- why the site is a machine that starts again
+-- why the site is a machine that starts again, with what is loaded of a checkpoint
+pub mod LoadedAlike
 pub mod RestingLaws

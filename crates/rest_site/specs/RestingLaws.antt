@@ -22,7 +22,8 @@ use Rattle.site_lives.proofs.Onward.{bytes-leave-at-rest, bytes-go-on, bytes-kee
 use Rattle.twin_sites.proofs.Rests.{sites-of-one-core-rest-alike}
 use Rattle.rest_site.specs.declared.oldest_codes.TheConstants.{OLDEST}
 use Rattle.rest_site.specs.Oldest.{asks_oldest}
-use Rattle.rest_site.specs.Stands.{CoreWithLives, AcquaintedStands, opened_alone}
+use Rattle.rest_site.specs.Stands.{HeldSite, AcquaintedStands, opened_alone}
+use Rattle.rest_site.specs.LoadedAlike.{under-same, loading-alike}
 use Rattle.rest_site.specs.Ruled.{ruled_machine, ruled_thing, ruled_bytes}
 
 -- ===== No request is two of these
@@ -47,7 +48,7 @@ lives_tell_no_ceiling bytes t = false_from_ne_true (asks_oldest bytes) (λ asks.
 nothing : (a : Acquainted) → all_at_rest a ≡ a → TakesBack a [] a
 nothing a rests = record { things = []; are = refl; spelled = refl; rests = rests; fit = refl; replayed = refl }
 
-pub an_opening_rests : (held : CoreWithLives) → TakesBack (opened_alone held) [] (opened_alone held)
+pub an_opening_rests : (held : HeldSite) → TakesBack (opened_alone held) [] (opened_alone held)
 an_opening_rests held = nothing (opened_alone held) refl
 
 pub what_was_taken_rests : (a : Acquainted) (bytes : List ℕ) (b : Acquainted) → TakesBack a bytes b → TakesBack b [] b × (all_at_rest b ≡ b)
@@ -63,7 +64,7 @@ module _ (a : Acquainted) (e : Event) where
   GoesOn o next = TakesBack (all_at_rest a) (all_spellings (option_to_list o)) (all_at_rest next)
 
   abbrev moved : Site → Acquainted
-  moved site = record { site = site; lives = a.lives }
+  moved site = record a { site = site }
 
   abbrev joined : Option LastingThing
   joined = option_map OfSite (lasting_of_join a.site e.1)
@@ -90,14 +91,19 @@ module _ (a : Acquainted) (e : Event) where
       (events-go-on requests one-spelling a e small sound ordered)
 
 -- nothing was known of lives when it opened: so behind what it took back the own life came first
-pub events_last : (held : CoreWithLives) (bytes : List ℕ) (a : Acquainted) (e : Event) → AcquaintedStands held a → e.0 < 65536 →
+pub events_last : (held : HeldSite) (bytes : List ℕ) (a : Acquainted) (e : Event) → AcquaintedStands held a → e.0 < 65536 →
     TakesBack (opened_alone held) bytes (all_at_rest a) → TakesBack (all_at_rest a) (ruled_bytes a e) (all_at_rest (ruled_machine.step a e))
 events_last held bytes a e stands small took =
     what_lasts_is_taken a e (lt-ltb e.0 65536 small) stands.0.1 (bytes-keep-order (opened_alone held) (all_at_rest a) bytes (λ none. refl) took)
 
 -- ===== Alike at rest
 
-pub machines_rest_alike : (m n : CoreWithLives) (a b : Acquainted) → AcquaintedStands m a → AcquaintedStands m b → AcquaintedStands n (all_at_rest b) →
+pub machines_rest_alike : (m n : HeldSite) (a b : Acquainted) → AcquaintedStands m a → AcquaintedStands m b → AcquaintedStands n (all_at_rest b) →
     AcquaintedStands n (all_at_rest a)
 machines_rest_alike m n a b one other rests =
-    (sites-of-one-core-rest-alike m.core n.core a.site b.site one.0 other.0 rests.0, rests.1 ∙ (sym other.1 ∙ one.1))
+    let same = sym other.0.0.limits ∙ one.0.0.limits in (
+      sites-of-one-core-rest-alike m.core n.core a.site b.site one.0 other.0 rests.0,
+      rests.1 ∙ (sym other.1 ∙ one.1),
+      loading-alike a.site.limits m.loading n.loading a.told b.told one.2 (under-same b.site.limits a.site.limits m.loading b.told same other.2)
+          (under-same b.site.limits a.site.limits n.loading b.told same rests.2),
+    )

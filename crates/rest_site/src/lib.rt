@@ -1,11 +1,12 @@
 //! A site with the lives that it knows, which joins leaves by rules and tells its oldest ceiling where it is asked to, and can end and
 //! start again: it puts what lasts of each request behind a log, and takes back what stands in one. It can be told by a shorter history
-//! than its own, and knows another site that rests as it does.
+//! than its own, a checkpoint, and knows another site that rests as it does.
 //!
-//! The rules, and how what lasts is spelled, are stated in `docs/MODEL.md`, 'What lasts', 'Lives', 'Joins by rules' and 'The oldest ceiling'.
+//! The rules, and how what lasts is spelled, are stated in `docs/MODEL.md`, 'What lasts', 'Lives', 'Joins by rules', 'The oldest ceiling',
+//! 'Checkpoints' and 'A shorter history'.
 #![tactic(auto)]
 
-ghost use Rattle.std.specs.Prelude.{◌≡◌, ◌≤◌, length, IsTrue, IfOk};
+ghost use Rattle.std.specs.Prelude.{◌≡◌, ◌≤◌, length, is_some, IsTrue, IfOk};
 ghost use Rattle.tardis_base.specs.Valid.{are_limits};
 ghost use Rattle.plain_dag.specs.Collection.{kept_states};
 ghost use Rattle.plain_site.specs.Site.{opening};
@@ -13,7 +14,9 @@ ghost use Rattle.site_lives.specs.Lives.{is_of_lives, with_new};
 ghost use Rattle.site_lives.specs.Acquainted.{Acquainted, unacquainted, about_lives};
 ghost use Rattle.rest_site.specs.Stands.{AcquaintedStands, opened_alone};
 
+mod floors;
 mod joins;
+mod loading;
 mod machines;
 mod notes;
 mod oldest;
@@ -24,7 +27,10 @@ mod shorter;
 mod takes;
 mod things;
 
+use loading::Begin;
 use session_core::SiteCore;
+use shorter_history::Past;
+use site_checkpoint::Checkpoint;
 use site_lives::{Lives, NewLife};
 use std::alloc::Global;
 use std::hash::RandomState;
@@ -36,20 +42,22 @@ use tardis_base::{Limits, NoMemory, ReplyBuf};
 pub struct RestSite {
     core: SiteCore,
     lives: Lives,
+    /// What is loaded of a checkpoint, whose end was not told yet.
+    loading: Option<Checkpoint>,
+    /// The states that it took back and that arrived since: of these a shorter history is made.
+    past: Past,
     alloc: Global,
     keys: RandomState,
 }
 
 impl Model for RestSite {
-    ghost use Rattle.rest_site.specs.Stands.{CoreWithLives};
+    ghost use Rattle.rest_site.specs.Stands.{HeldSite, StandsForSome};
 
-    ghost Value = { CoreWithLives };
+    ghost Value = { HeldSite };
 
-    ghost use Rattle.session_core.specs.Stands.{StandsForSite};
+    ghost view = { λ a. record { core = a.core; lives = a.lives; loading = a.loading } };
 
-    ghost view = { λ a. record { core = a.core; lives = a.lives } };
-
-    ghost invariant = { λ a. StandsForSite a.core };
+    ghost invariant = { λ a. StandsForSome a.core a.loading };
 }
 
 impl RestSite {
@@ -68,9 +76,12 @@ impl RestSite {
         ensures opening { IfOk result (λ site. opened_alone site ≡ unacquainted (opening limits own)) }
     {
         let core = SiteCore::new(alloc, keys, limits, own)?;
+        let past = Past::new(alloc, limits.sites)?;
         Ok(RestSite {
             core,
             lives: Lives::new(),
+            loading: None,
+            past,
             alloc,
             keys,
         })
@@ -121,8 +132,35 @@ impl RestSite {
         ensures new { (a : Acquainted) → AcquaintedStands self.old a → result ≡ (about_lives a request.now).1 }
         ensures core { self.new.core ≡ self.old.core }
         ensures lives { self.new.lives ≡ with_new result self.old.lives }
+        ensures loading { self.new.loading ≡ self.old.loading }
     {
         let (own, sites) = self.place();
         self.lives.answer(own, sites, request, out)
+    }
+
+    /// Whether parts of a checkpoint are loaded, whose end was not told yet.
+    fn is_loading(&self) -> bool
+        ensures { result ≡ is_some self.now.loading }
+    {
+        self.loading.is_some()
+    }
+
+    /// With what a checkpoint begins.
+    fn begin(&self) -> Begin {
+        Begin {
+            alloc: self.alloc,
+            keys: self.keys,
+        }
+    }
+
+    /// Notes the states that arrived by these things, and makes the past short where that is time. It never fails: where memory is wanting
+    /// the past is lost, and no shorter history is made of it.
+    fn note(&mut self, bytes: &[u8])
+        ensures { self.new ≡ self.old }
+    {
+        self.past.note(bytes);
+        if !self.is_loading() && self.past.is_long() {
+            self.past.shorten(&self.core);
+        }
     }
 }

@@ -1,5 +1,11 @@
 //! The site as a machine, and as one that starts again from what lasted of its requests.
 
+ghost use Rattle.std.specs.Prelude.{◌≡◌, ◌+◌, ◌≤◌, ◌++◌, true, [], vec_len, vec_capacity, IsOk, OnOk, OnErr};
+ghost use Rattle.rest_machine.specs.Rests.{most_lasting};
+ghost use Rattle.site_lives.specs.Acquainted.{Acquainted};
+ghost use Rattle.rest_site.specs.Stands.{AcquaintedStands, opened_alone};
+ghost use Rattle.rest_site.specs.Ruled.{ruled_machine, ruled_bytes};
+
 use crate::RestSite;
 use crate::joins::join;
 use crate::oldest::{asks_oldest, tell_oldest};
@@ -39,6 +45,42 @@ impl Machine for RestSite {
     }
 }
 
+impl RestSite {
+    /// Answers the request, and puts what lasts of it behind the log, but doesn't note it.
+    fn answer_lasting(
+        &mut self,
+        actor: u16,
+        request: &[u8],
+        out: &mut ReplyBuf,
+        log: &mut Vec<u8>,
+    ) -> Result<(), NoMemory>
+        requires room { vec_len log.old + most_lasting ≤ vec_capacity log.old }
+        ensures reply { OnOk result ((a : Acquainted) → AcquaintedStands self.old a → out.new ≡ ruled_machine.reply a (actor, request.now)) }
+        ensures step { OnOk result ((a : Acquainted) → AcquaintedStands self.old a → AcquaintedStands self.new (ruled_machine.step a (actor, request.now))) }
+        ensures same { OnErr result ((a : Acquainted) → AcquaintedStands self.old a → AcquaintedStands self.new a) }
+        ensures empty { OnErr result (out.new ≡ []) }
+        ensures sure { ruled_machine.is_sure (actor, request.now) ≡ true → IsOk result }
+        ensures lasts { OnOk result ((a : Acquainted) → AcquaintedStands self.old a → log.new.items ≡ log.old.items ++ ruled_bytes a (actor, request.now)) }
+        ensures nothing { OnErr result (log.new.items ≡ log.old.items) }
+        ensures few { vec_len log.new ≤ vec_len log.old + most_lasting }
+        ensures capacity { vec_capacity log.old ≤ vec_capacity log.new }
+        ensures opening { opened_alone self.new ≡ opened_alone self.old }
+    {
+        if is_of_lives(request) {
+            let new = self.meet(request, out);
+            put_life(&new, log);
+            Ok(())
+        } else if asks_oldest(request) {
+            tell_oldest(&self.core, out);
+            Ok(())
+        } else if is_join(request) {
+            serve_join(&mut self.core, self.alloc, request, out, log)
+        } else {
+            serve(&mut self.core, actor, request, out, log)
+        }
+    }
+}
+
 impl Resting for RestSite {
     ghost use Rattle.site_lives.specs.Acquainted.{Acquainted};
     ghost use Rattle.rest_site.specs.Stands.{AcquaintedStands, opened_alone};
@@ -68,26 +110,28 @@ impl Resting for RestSite {
         out: &mut ReplyBuf,
         log: &mut Vec<u8>,
     ) -> Result<(), NoMemory> {
-        if is_of_lives(request) {
-            let new = self.meet(request, out);
-            put_life(&new, log);
-            Ok(())
-        } else if asks_oldest(request) {
-            tell_oldest(&self.core, out);
-            Ok(())
-        } else if is_join(request) {
-            serve_join(&mut self.core, self.alloc, request, out, log)
-        } else {
-            serve(&mut self.core, actor, request, out, log)
-        }
+        let before = log.len();
+        let done = self.answer_lasting(actor, request, out, log);
+        self.note(log.get(before..).unwrap_or(&[]));
+        done
     }
 
     fn take_back(&mut self, bytes: &[u8]) -> Result<bool, NoMemory> {
-        if self.core.is_quiet() {
-            take_all(&mut self.core, &mut self.lives, self.alloc, bytes)
-        } else {
-            Ok(false)
+        if !self.core.is_quiet() {
+            return Ok(false);
         }
+        let begin = self.begin();
+        let taken = take_all(
+            &mut self.core,
+            &mut self.lives,
+            &mut self.loading,
+            &begin,
+            bytes,
+        )?;
+        if taken {
+            self.note(bytes);
+        }
+        Ok(taken)
     }
 
     ghost opens = { an_opening_rests };

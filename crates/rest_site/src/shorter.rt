@@ -19,7 +19,7 @@ impl Shortening for RestSite {
     }
 
     fn plan(&self) -> Result<Plan, NoMemory> {
-        plan_of(self.alloc, &self.core, &self.lives)
+        plan_of(self.alloc, &self.core, &self.lives, &self.past)
     }
 
     fn planned(plan: &Plan) -> usize {
@@ -32,6 +32,12 @@ impl Shortening for RestSite {
 
     fn rests_as(&self, other: &RestSite) -> bool {
         twins_stand_with_sessions();
+        if self.is_loading() {
+            return false;
+        }
+        if other.is_loading() {
+            return false;
+        }
         if !rest_alike(&self.core, &other.core) {
             return false;
         }

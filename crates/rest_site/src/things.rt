@@ -1,22 +1,31 @@
 //! What lasted, read back from bytes and taken back.
 
-ghost use Rattle.std.specs.Prelude.{◌≡◌, true, length, Ok, IsTrue, IfOk};
+ghost use Rattle.std.specs.Prelude.{◌≡◌, true, length, List, Option, Ok, IsTrue, IfOk};
+ghost use Rattle.wire_item.specs.Fronts.{front_of_code};
+ghost use Rattle.plain_dag.specs.Floors.{Floor};
+ghost use Rattle.site_checkpoint.specs.Loaded.{Loaded};
+ghost use Rattle.site_checkpoint.specs.Ends.{floors_told};
 ghost use Rattle.tardis_base.specs.declared.records.Item.TheVariants.{State};
 ghost use Rattle.plain_site.specs.Rest.{News};
 ghost use Rattle.session_core.specs.Machine.{opened_with};
 ghost use Rattle.session_core.specs.Rests.{is_quiet};
-ghost use Rattle.rest_site.specs.Stands.{and_lives};
-ghost use Rattle.site_lives.specs.Things.{OfSite, OfLives, is_thing, thing_front, life_front};
+ghost use Rattle.plain_checkpoint.specs.Checkpoints.{ToldState};
+ghost use Rattle.rest_site.specs.Stands.{held_site, StandsForSome};
+ghost use Rattle.site_lives.specs.Things.{OfSite, OfLives, OfCheckpoint, OfEnd, is_thing, thing_front, life_front};
 ghost use Rattle.rest_site.specs.Takings.{lasting_of, state_front, promise_front, collection_front, new_life_front, new_row_front, IsRead, TakesThing};
+ghost use Rattle.rest_site.specs.Takings.{told_front, line_front, gone_front, end_front, part_rows};
 ghost use Rattle.wire_item.specs.Takings.{Takes};
 
+use crate::floors::{Floors, read_floors};
+use crate::loading::{Begin, end, load_gone, load_line, load_state};
 use session_core::SiteCore;
+use site_checkpoint::Checkpoint;
 use site_lives::{Lives, NewLife};
 use std::alloc::Global;
-use tardis_base::{Consent, NoMemory, Record};
+use tardis_base::{Consent, NoMemory, Record, StateId};
 use wire_item::Reader;
 
-/// What lasted of a request, or a row of states.
+/// What lasted of a request; a row of states; or a part of a checkpoint, or its end.
 #[derive(Drop)]
 pub(crate) enum Thing {
     State(Record),
@@ -24,6 +33,10 @@ pub(crate) enum Thing {
     Collection(u32),
     Life(NewLife),
     Row { site: u16, count: u32 },
+    Told(Record),
+    Line { site: u16, count: u32 },
+    Gone(StateId),
+    End(Floors),
 }
 
 /// The thing at the front of the bytes that are left; None where none stands there.
@@ -45,6 +58,25 @@ pub(crate) fn read_thing(reader: &mut Reader<'_>, alloc: Global) -> Option<Resul
     }
     if code == 5 {
         return read_row(reader);
+    }
+    read_part(code, reader, alloc)
+}
+
+/// The part of a checkpoint, or its end, that stands behind its code.
+fn read_part(code: u8, reader: &mut Reader<'_>, alloc: Global) -> Option<Result<Thing, NoMemory>>
+    ensures { IsRead (front_of_code code part_rows reader.old) result reader.new }
+{
+    if code == 6 {
+        return read_told(reader, alloc);
+    }
+    if code == 7 {
+        return read_line(reader);
+    }
+    if code == 8 {
+        return read_gone(reader);
+    }
+    if code == 9 {
+        return read_end(reader, alloc);
     }
     None
 }
@@ -101,6 +133,53 @@ fn read_row(reader: &mut Reader<'_>) -> Option<Result<Thing, NoMemory>>
     Some(Ok(Thing::Row { site, count }))
 }
 
+/// The record of a state that is told.
+fn read_told(reader: &mut Reader<'_>, alloc: Global) -> Option<Result<Thing, NoMemory>>
+    ensures { IsRead (told_front reader.old) result reader.new }
+{
+    let record = reader.record(alloc)?;
+    Some(told_of(record))
+}
+
+/// The record, where there was memory for it, as that of a state that is told.
+fn told_of(rec: Result<Record, NoMemory>) -> Result<Thing, NoMemory>
+    ensures { (r : Record) → IfOk rec (λ s. s ≡ r) → IfOk result (λ thing. lasting_of thing ≡ OfCheckpoint (ToldState r)) }
+{
+    Ok(Thing::Told(rec?))
+}
+
+/// A line that is told: the number of its site, and how many states there are.
+fn read_line(reader: &mut Reader<'_>) -> Option<Result<Thing, NoMemory>>
+    ensures { IsRead (line_front reader.old) result reader.new }
+{
+    let site = reader.u16()?;
+    let count = reader.u32()?;
+    Some(Ok(Thing::Line { site, count }))
+}
+
+/// The state that is told to be gone.
+fn read_gone(reader: &mut Reader<'_>) -> Option<Result<Thing, NoMemory>>
+    ensures { IsRead (gone_front reader.old) result reader.new }
+{
+    let id = reader.id()?;
+    Some(Ok(Thing::Gone(id)))
+}
+
+/// The floors at the end of a checkpoint.
+fn read_end(reader: &mut Reader<'_>, alloc: Global) -> Option<Result<Thing, NoMemory>>
+    ensures { IsRead (end_front reader.old) result reader.new }
+{
+    let floors = read_floors(reader, alloc)?;
+    Some(end_of(floors))
+}
+
+/// The floors, where there was memory for them, as those at the end.
+fn end_of(floors: Result<Floors, NoMemory>) -> Result<Thing, NoMemory>
+    ensures { (fs : List Floor) → IfOk floors (λ gs. floors_told gs ≡ fs) → IfOk result (λ thing. lasting_of thing ≡ OfEnd fs) }
+{
+    Ok(Thing::End(floors?))
+}
+
 /// The number of its site, and the 16 bytes.
 fn new_life(reader: &mut Reader<'_>) -> Option<NewLife>
     ensures { Takes life_front reader.old result reader.new }
@@ -122,10 +201,17 @@ fn life_of(bytes: &[u8]) -> [u8; 16]
 }
 
 /// Takes the thing back, where it fits.
-pub(crate) fn take(core: &mut SiteCore, lives: &mut Lives, thing: Thing) -> Result<bool, NoMemory>
+pub(crate) fn take(
+    core: &mut SiteCore,
+    lives: &mut Lives,
+    loading: &mut Option<Checkpoint>,
+    begin: &Begin,
+    thing: Thing,
+) -> Result<bool, NoMemory>
     requires quiet { is_quiet core.old ≡ true }
+    requires stands { StandsForSome core.old loading.old }
     requires valid { IsTrue (is_thing (lasting_of thing)) }
-    ensures taken { TakesThing (and_lives core.old lives.old) (and_lives core.new lives.new) (lasting_of thing) result }
+    ensures taken { TakesThing (held_site core.old lives.old loading.old) (held_site core.new lives.new loading.new) (lasting_of thing) result }
     ensures opening { opened_with core.new ≡ opened_with core.old }
 {
     match thing {
@@ -134,12 +220,16 @@ pub(crate) fn take(core: &mut SiteCore, lives: &mut Lives, thing: Thing) -> Resu
         Thing::Collection(count) => Ok(core.collect(count) == count),
         Thing::Life(new) => Ok(take_life(core, lives, &new)),
         Thing::Row { site, count } => core.take_row(site, count),
+        Thing::Told(record) => load_state(core, loading, begin, record),
+        Thing::Line { site, count } => load_line(core, loading, begin, site, count),
+        Thing::Gone(id) => load_gone(core, loading, begin, id),
+        Thing::End(floors) => end(core, loading, begin, &floors),
     }
 }
 
 /// Takes the life back, where it fits.
 fn take_life(core: &SiteCore, lives: &mut Lives, new: &NewLife) -> bool
-    ensures { TakesThing (and_lives core.now lives.old) (and_lives core.now lives.new) (OfLives new.now) (Ok result) }
+    ensures { (loading : Option Loaded) → TakesThing (held_site core.now lives.old loading) (held_site core.now lives.new loading) (OfLives new.now) (Ok result) }
 {
     let own = core.book().own_site();
     let sites = core.store().dag().limits().sites;

@@ -1,6 +1,6 @@
 use Rattle.std.proofs.Common.{◌∙◌, Some, ap, subst}
 use Rattle.site_lives.specs.Things.{thing_front}
-use Rattle.rest_site.specs.Stands.{and_lives}
+use Rattle.rest_site.specs.Stands.{held_site}
 use Rattle.rest_site.specs.Takings.{lasting_of, IsRead, TakesThing}
 use Rattle.rest_site.proofs.Taken.{front-of-thing, read-valid, read-shorter, thing-leads, thing-quiet, thing-stands, unfit-refused, unread-refused}
 use Rattle.rest_site.proofs.takes.take_next.Goals as goal
@@ -21,8 +21,8 @@ returns-in-Some-Ok-clause-taken c = λ e.
     let thing = c.in-Some-Ok.thing in
     let read = subst (λ r. IsRead (thing_front old) r new) (c.in-Some-Ok.is ∙ ap (λ x. Some x) c.in-Some-Ok.field-0-is) c.read_thing.ensures in
     let front = front-of-thing old new thing read in
-    let took = subst (TakesThing (and_lives c.args.core.now c.args.lives.now) (and_lives c.take.new.core c.take.new.lives) (lasting_of thing)) e c.take.ensures.taken in
-    thing-leads (and_lives c.args.core.now c.args.lives.now) (and_lives c.take.new.core c.take.new.lives) old new (lasting_of thing) front took
+    let took = subst (TakesThing (held_site c.args.core.now c.args.lives.now c.args.loading.now) (held_site c.take.new.core c.take.new.lives c.take.new.loading) (lasting_of thing)) e c.take.ensures.taken in
+    thing-leads (held_site c.args.core.now c.args.lives.now c.args.loading.now) (held_site c.take.new.core c.take.new.lives c.take.new.loading) old new (lasting_of thing) front took
 
 pub returns-in-Some-Ok-clause-shorter : goal.returns-in-Some-Ok-clause-shorter
 returns-in-Some-Ok-clause-shorter c = λ e.
@@ -36,8 +36,8 @@ returns-in-Some-Ok-clause-shorter c = λ e.
 pub returns-in-Some-Ok-clause-quiet : goal.returns-in-Some-Ok-clause-quiet
 returns-in-Some-Ok-clause-quiet c = λ e.
     let thing = c.in-Some-Ok.thing in
-    let took = subst (TakesThing (and_lives c.args.core.now c.args.lives.now) (and_lives c.take.new.core c.take.new.lives) (lasting_of thing)) e c.take.ensures.taken in
-    thing-quiet (and_lives c.args.core.now c.args.lives.now) (and_lives c.take.new.core c.take.new.lives) (lasting_of thing) c.requires.quiet c.requires.stands took
+    let took = subst (TakesThing (held_site c.args.core.now c.args.lives.now c.args.loading.now) (held_site c.take.new.core c.take.new.lives c.take.new.loading) (lasting_of thing)) e c.take.ensures.taken in
+    thing-quiet (held_site c.args.core.now c.args.lives.now c.args.loading.now) (held_site c.take.new.core c.take.new.lives c.take.new.loading) (lasting_of thing) c.requires.quiet c.requires.stands took
 
 pub returns-in-Some-Ok-clause-refused : goal.returns-in-Some-Ok-clause-refused
 returns-in-Some-Ok-clause-refused c = λ e a behind stands.
@@ -46,12 +46,12 @@ returns-in-Some-Ok-clause-refused c = λ e a behind stands.
     let thing = c.in-Some-Ok.thing in
     let read = subst (λ r. IsRead (thing_front old) r new) (c.in-Some-Ok.is ∙ ap (λ x. Some x) c.in-Some-Ok.field-0-is) c.read_thing.ensures in
     let front = front-of-thing old new thing read in
-    let took = subst (TakesThing (and_lives c.args.core.now c.args.lives.now) (and_lives c.take.new.core c.take.new.lives) (lasting_of thing)) e c.take.ensures.taken in
+    let took = subst (TakesThing (held_site c.args.core.now c.args.lives.now c.args.loading.now) (held_site c.take.new.core c.take.new.lives c.take.new.loading) (lasting_of thing)) e c.take.ensures.taken in
     unfit-refused a behind old new (lasting_of thing) front (took a stands).0
 
 pub returns-in-Some-Ok-clause-stands : goal.returns-in-Some-Ok-clause-stands
 returns-in-Some-Ok-clause-stands c =
-    thing-stands (and_lives c.args.core.now c.args.lives.now) (and_lives c.take.new.core c.take.new.lives) (lasting_of c.in-Some-Ok.thing) c.take.result c.requires.stands c.take.ensures.taken
+    thing-stands (held_site c.args.core.now c.args.lives.now c.args.loading.now) (held_site c.take.new.core c.take.new.lives c.take.new.loading) (lasting_of c.in-Some-Ok.thing) c.take.result c.requires.stands c.take.ensures.taken
 
 pub returns-in-None-clause-refused : goal.returns-in-None-clause-refused
 returns-in-None-clause-refused c = λ e a behind stands.

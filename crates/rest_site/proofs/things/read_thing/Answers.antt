@@ -1,8 +1,7 @@
-use Rattle.std.proofs.Common.{subst, sym, ◌∙◌}
+use Rattle.std.proofs.Common.{subst, sym}
 use Rattle.wire_item.specs.Fronts.{front_of_code}
 use Rattle.wire_item.specs.Readings.{u8_front}
 use Rattle.wire_item.proofs.Takings.{taken, untaken}
-use Rattle.wire_item.proofs.Codes.{code-read}
 use Rattle.site_lives.specs.Things.{thing_rows, thing_front}
 use Rattle.rest_site.specs.Takings.{IsRead}
 use Rattle.rest_site.proofs.Taken.{coded, uncoded, code-far, read-none}
@@ -47,6 +46,8 @@ returns-then-code-eq5 c =
 
 pub returns : goal.returns
 returns c =
-    code-read thing_rows c.args.reader.now c.in_ok-code.code c.u8.new.self
+    coded c.args.reader.now c.u8.new.self c.read_part.new.reader c.in_ok-code.code c.read_part.result
     (taken u8_front c.args.reader.now c.u8.new.self c.in_ok-code.code c.in_ok-code.ensures)
-    ∙ code-far c.in_ok-code.code c.u8.new.self c.if-code-eq1.false c.if-code-eq2.false c.if-code-eq3.false c.if-code-eq4.false c.if-code-eq5.false
+    (subst (λ read. IsRead read c.read_part.result c.read_part.new.reader)
+    (sym (code-far c.in_ok-code.code c.u8.new.self c.if-code-eq1.false c.if-code-eq2.false c.if-code-eq3.false c.if-code-eq4.false c.if-code-eq5.false))
+    c.read_part.ensures)
