@@ -57,7 +57,33 @@ class Row(NamedTuple):
     count: int  # type: ignore[assignment]
 
 
-Thing = Union[Record, Consent, Collection, Life, Row]
+class State(NamedTuple):
+    """A state that a checkpoint tells."""
+    record: Record
+
+
+class Line(NamedTuple):
+    site: int
+    count: int  # type: ignore[assignment]
+
+
+class Gone(NamedTuple):
+    id: Id
+
+
+class Floor(NamedTuple):
+    state: Id
+    number: int
+    stated: int
+
+
+class End(NamedTuple):
+    """The end of a checkpoint, with the floor of each site."""
+    floors: Tuple[Floor, ...]
+
+
+Part = Union[State, Line, Gone]
+Thing = Union[Record, Consent, Collection, Life, Row, Part, End]
 
 
 class NoLog(Exception):
@@ -129,20 +155,40 @@ def id_spelling(id: Id) -> bytes:
     return struct.pack(">HI", *id)
 
 
+def record_spelling(record: Record) -> bytes:
+    writes = b"".join(
+        bytes([len(key)]) + key + (b"\0" if value is None else b"\1" + struct.pack(">H", len(value)) + value)
+        for key, value in sorted(record.writes.items()))
+    return id_spelling(record.id) + bytes([len(record.parents)]) + b"".join(map(id_spelling, record.parents)) \
+        + bytes([len(record.writes)]) + writes
+
+
+def floor_spelling(floor: Floor) -> bytes:
+    return id_spelling(floor.state) + struct.pack(">II", floor.number, floor.stated)
+
+
+def part_spelling(part: Part) -> bytes:
+    if isinstance(part, State):
+        return b"\6" + record_spelling(part.record)
+    if isinstance(part, Line):
+        return b"\7" + struct.pack(">HI", *part)
+    return b"\x08" + id_spelling(part.id)
+
+
 def thing_spelling(thing: Thing) -> bytes:
     if isinstance(thing, Record):
-        writes = b"".join(
-            bytes([len(key)]) + key + (b"\0" if value is None else b"\1" + struct.pack(">H", len(value)) + value)
-            for key, value in sorted(thing.writes.items()))
-        return b"\1" + id_spelling(thing.id) + bytes([len(thing.parents)]) + b"".join(map(id_spelling, thing.parents)) \
-            + bytes([len(thing.writes)]) + writes
+        return b"\1" + record_spelling(thing)
     if isinstance(thing, Consent):
         return b"\2" + struct.pack(">HI", thing.site, thing.number) + id_spelling(thing.floor) + struct.pack(">I", thing.stated)
     if isinstance(thing, Life):
         return b"\4" + struct.pack(">H", thing.site) + thing.life
     if isinstance(thing, Row):
         return b"\5" + struct.pack(">HI", *thing)
-    return b"\3" + struct.pack(">I", thing.count)
+    if isinstance(thing, End):
+        return b"\x09" + bytes([len(thing.floors)]) + b"".join(map(floor_spelling, thing.floors))
+    if isinstance(thing, Collection):
+        return b"\3" + struct.pack(">I", thing.count)
+    return part_spelling(thing)
 
 
 class Fields:
@@ -168,10 +214,16 @@ class Fields:
         key, kind = self.take(self.number(1)), self.number(1)
         return key, self.take(self.number(2)) if kind else None
 
+    def record(self) -> Record:
+        return Record(self.id(), tuple(self.id() for _ in range(self.number(1))), dict(self.write() for _ in range(self.number(1))))
+
+    def floor(self) -> Floor:
+        return Floor(self.id(), self.number(4), self.number(4))
+
     def thing(self) -> Thing:
         kind = self.number(1)
         if kind == 1:
-            return Record(self.id(), tuple(self.id() for _ in range(self.number(1))), dict(self.write() for _ in range(self.number(1))))
+            return self.record()
         if kind == 2:
             return Consent(self.number(2), self.number(4), self.id(), self.number(4))
         if kind == 3:
@@ -180,6 +232,14 @@ class Fields:
             return Life(self.number(2), self.take(LIFE))
         if kind == 5:
             return Row(self.number(2), self.number(4))
+        if kind == 6:
+            return State(self.record())
+        if kind == 7:
+            return Line(self.number(2), self.number(4))
+        if kind == 8:
+            return Gone(self.id())
+        if kind == 9:
+            return End(tuple(self.floor() for _ in range(self.number(1))))
         raise ValueError("nothing that lasts has the kind %d" % kind)
 
 

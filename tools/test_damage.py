@@ -28,7 +28,7 @@ TOP = os.path.dirname(HERE)
 sys.path[:0] = [os.path.join(TOP, "clients", "python")]
 
 import log_file  # noqa: E402
-from log_file import FRONT, Collection, Consent, LogReader, Record, Row, log_bytes, thing_spelling, things_of  # noqa: E402
+from log_file import FRONT, Collection, Consent, Line, LogReader, Record, log_bytes, thing_spelling, things_of  # noqa: E402
 from servers import PATIENCE, first_line, stop  # noqa: E402
 
 STATES, PROMISED_EACH, HELD, KEYS = 400_000, 5_000, 3_000, 700
@@ -86,7 +86,7 @@ class Damage:
         self.text = len(reader.text)
         # behind this place there are groups without things
         self.lasting = next(end for (_, body), end in zip(reversed(groups), reversed(self.groups[1:] + [self.text])) if body)
-        self.rows = sum(isinstance(thing, Row) for _, body in groups for thing in things_of(body))
+        self.lines = sum(isinstance(thing, Line) for _, body in groups for thing in things_of(body))
         self.good = check(program, path)
         assert self.good[0] == 0 and "end whole" in self.good[1], self.good
         self.told = self.torn = self.starts = 0
@@ -163,8 +163,8 @@ def main():
         server = Server(program, path)
         assert " listens at " in server.end(), server.line
         damage = Damage(program, path)
-        assert damage.rows and damage.text < length // 4, "the log wasn't told shorter"
-        print("%d bytes of log were told shorter, in %d bytes and %d groups, with %d rows" % (length, damage.text, len(damage.groups), damage.rows),
+        assert damage.lines and damage.text < length // 4, "the log wasn't told shorter"
+        print("%d bytes of log were told shorter, in %d bytes and %d groups, with %d lines" % (length, damage.text, len(damage.groups), damage.lines),
               flush=True)
         for number, place in enumerate(places_of(damage, choose, each)):
             if time.monotonic() > end:
