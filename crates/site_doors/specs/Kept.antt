@@ -5,14 +5,14 @@ use Rattle.hub.specs.Settlings.{PlainSettling, behind_doors}
 use Rattle.hub.specs.Doors.{DoorRules}
 use Rattle.site_lives.specs.Acquainted.{Acquainted}
 use Rattle.rest_site.specs.Ruled.{ruled_machine, ruled_bytes}
-use Rattle.rest_site.specs.Stands.{CoreWithLives, AcquaintedStands, opened_alone}
+use Rattle.rest_site.specs.Stands.{HeldSite, AcquaintedStands, opened_alone}
 use Rattle.site_lives.specs.Things.{all_at_rest}
 use Rattle.site_lives.specs.Bytes.{TakesBack}
 use Rattle.site_log.specs.Kept.{Kept}
 use Rattle.site_doors.specs.Rules.{site_doors}
 
 -- the site as a machine that starts again from what lasted
-abbrev pub resting : AResting CoreWithLives
+abbrev pub resting : AResting HeldSite
 resting = record {
   Plain = Acquainted;
   plain = ruled_machine;
