@@ -22,7 +22,7 @@ use Rattle.record_store.specs.Store.{Store}
 use Rattle.record_store.specs.Stands.{StoreStands, shown_version}
 use Rattle.plain_site.specs.Site.{Site}
 use Rattle.site_lives.specs.Acquainted.{Acquainted}
-use Rattle.rest_site.specs.Stands.{CoreWithLives, AcquaintedStands}
+use Rattle.rest_site.specs.Stands.{HeldSite, AcquaintedStands}
 use Rattle.site_log.specs.declared.ends.OpenEnd.{OpenEnd}
 use Rattle.site_log.specs.declared.ends.OpenEnd.TheVariants.{Disk as DiskFailed, NotALog, OtherVersion, BadFront, OtherSite, OtherLimits, Damaged, Unfit, NoMemory}
 use Rattle.site_log.specs.declared.replays.Found.{Found}
@@ -102,7 +102,7 @@ site_told store site listed log stands known kept leaf count distinct missing =
     }
 
 -- a front of the same site is at the same place, and its site opens alike
-pub checked : (before after : CoreWithLives) (bytes : List ℕ) (front : LogFront) (found : Found) (bodies : List (List ℕ)) (log : CheckedLog)
+pub checked : (before after : HeldSite) (bytes : List ℕ) (front : LogFront) (found : Found) (bodies : List (List ℕ)) (log : CheckedLog)
     → IsPlace (place_in front) → AcquaintedStands before (opens_widest front) → Replayed resting before after bytes found bodies
     → IsWanted found.front (widest front) → TellsLog found (length bytes) log
     → ((a : Acquainted) → AcquaintedStands after a → TellsSite a.site log) → IsChecked bytes log

@@ -7,7 +7,7 @@ use Rattle.command_words.specs.Daemons.{Daemon, daemon_of}
 use Rattle.hub.specs.declared.ports.Seen.{Seen}
 use Rattle.log_groups.specs.declared.fronts.LogFront.{LogFront}
 use Rattle.site_lives.specs.Acquainted.{Acquainted}
-use Rattle.rest_site.specs.Stands.{CoreWithLives, AcquaintedStands, opened_alone}
+use Rattle.rest_site.specs.Stands.{HeldSite, AcquaintedStands, opened_alone}
 use Rattle.site_log.specs.declared.ends.OpenEnd.{OpenEnd}
 use Rattle.site_log.specs.declared.ends.OpenEnd.TheVariants.{Disk as DiskFailed}
 use Rattle.site_log.specs.declared.opens.OpenedLog.{OpenedLog}
@@ -24,7 +24,7 @@ use Rattle.tardisd_main.specs.Files.{front_at, not_opened, IsRefused}
 use Rattle.tardisd_main.specs.Stores.{GoesOn, ServedFrom}
 
 module _ {K : Type 0} (k : ADisk K) where
-  pub is_refused : (asked : Daemon) (life : List ℕ) (site : CoreWithLives) (disk : K) (front : LogFront) (why : OpenEnd) (back : K) (end : DaemonEnd)
+  pub is_refused : (asked : Daemon) (life : List ℕ) (site : HeldSite) (disk : K) (front : LogFront) (why : OpenEnd) (back : K) (end : DaemonEnd)
       → front ≡ front_at asked life → AcquaintedStands site (opens_at asked) → end ≡ not_opened why
       → IsLogRefused resting k site disk front why back → (why ≡ DiskFailed → Rose (k.faults disk) (k.faults back))
       → (k.honest disk → OpeningLeaves k disk back front) → IsRefused k asked life disk back end
@@ -38,7 +38,7 @@ module _ {K : Type 0} (k : ADisk K) where
       }
 
   pub served_from : {P : Type 0} (opens : Daemon → Result P GateFault → Type 0) (seen : P → Option (List Seen)) (plan : DaemonPlan) (end : DaemonEnd)
-      (life : List ℕ) (site : CoreWithLives) (disk back : K) (front : LogFront) (it : OpenedLog CoreWithLives K)
+      (life : List ℕ) (site : HeldSite) (disk back : K) (front : LogFront) (it : OpenedLog HeldSite K)
       → front ≡ front_at (daemon_of plan) life → AcquaintedStands site (opens_at (daemon_of plan)) → opened_alone site ≡ opens_at (daemon_of plan)
       → (bodies : List (List ℕ)) × IsOpened resting k site disk front it bodies
       → IsWanted it.found.front front × (it.found.is_new ≡ true → it.found.front ≡ front)

@@ -11,7 +11,7 @@ use Rattle.hub.specs.Runs.{IsRun}
 use Rattle.plain_site.specs.Sound.{IsSound}
 use Rattle.site_lives.specs.Acquainted.{Acquainted}
 use Rattle.rest_site.specs.Ruled.{ruled_machine}
-use Rattle.rest_site.specs.Stands.{CoreWithLives, AcquaintedStands}
+use Rattle.rest_site.specs.Stands.{HeldSite, AcquaintedStands}
 use Rattle.site_doors.specs.declared.asked_sites.AskedSite.{AskedSite}
 use Rattle.tardisd_main.specs.Sites.{upkeep_rule, scope_of, begin_life, opens_at, asked_site, ServesPlace}
 
@@ -34,7 +34,7 @@ weaker w rule scope to told s end before after tells run =
     }
 
 -- a run of what stands for the site of a place that opens and begins a life
-pub serves_place : {E : Type 0} (asked : Daemon) (life : List ℕ) (held : CoreWithLives) (result : Result End E) (before after : Option (List Seen))
+pub serves_place : {E : Type 0} (asked : Daemon) (life : List ℕ) (held : HeldSite) (result : Result End E) (before after : Option (List Seen))
     → AcquaintedStands held (opens_at asked)
     → IfOk result (λ end. (a : Acquainted) → AcquaintedStands held a → IsRun asked_site (upkeep_rule asked.tidy asked.rules) (scope_of asked)
     (λ t. (m : AskedSite) × AcquaintedStands m.site t) (ruled_machine.step a (begin_life life)) end before after)

@@ -10,7 +10,7 @@ use Rattle.command_words.specs.Daemons.{Daemon}
 use Rattle.site_lives.specs.Acquainted.{Acquainted}
 use Rattle.site_lives.specs.Things.{all_at_rest}
 use Rattle.site_lives.specs.Bytes.{TakesBack}
-use Rattle.rest_site.specs.Stands.{CoreWithLives, opened_alone}
+use Rattle.rest_site.specs.Stands.{HeldSite, opened_alone}
 use Rattle.site_log.specs.declared.logged.Logged.{Logged}
 use Rattle.site_log.specs.Kept.{Kept, starts, opens_with}
 use Rattle.site_log.specs.Images.{joined, Mark, IsSafe}
@@ -39,7 +39,7 @@ pub same_front : {S : Type 0} (a b : LogFront) (s t : S) → opens_with a s ≡ 
 same_front a b s t e = ap front_in e
 
 -- the log's machine stands for this, with some moments
-abbrev pub StandsFor : {K : Type 0} → ADisk K → Logged CoreWithLives K → Kept Acquainted → Type 0
+abbrev pub StandsFor : {K : Type 0} → ADisk K → Logged HeldSite K → Kept Acquainted → Type 0
 StandsFor k l kept = (marks : List Mark) × Stands resting k l kept marks
 
 -- an opening that stays as it is
@@ -47,7 +47,7 @@ pub same_opening : {S : Type 0} (a b : LogFront) (s t : S) → opens_with a s �
 same_opening {S} a b s t e = ap (λ (kept : Kept S). kept.state) e
 
 -- the disk of a log keeps what its machine stands for, where this opened as was asked for
-at_end : {K : Type 0} (k : ADisk K) (asked : Daemon) (l : Logged CoreWithLives K) (kept : Kept Acquainted) → opened_alone l.machine ≡ opens_at asked
+at_end : {K : Type 0} (k : ADisk K) (asked : Daemon) (l : Logged HeldSite K) (kept : Kept Acquainted) → opened_alone l.machine ≡ opens_at asked
     → StandsFor k l kept → Keeps k asked l.file.disk l.file.front kept
 at_end k asked l kept opened stands =
     record {
@@ -59,14 +59,14 @@ at_end k asked l kept opened stands =
     }
 
 -- and so does the disk that is handed back, in a log with the front that it had
-pub keeps : {K : Type 0} (k : ADisk K) (asked : Daemon) (l : Logged CoreWithLives K) (front : LogFront) (back : K) (kept : Kept Acquainted)
+pub keeps : {K : Type 0} (k : ADisk K) (asked : Daemon) (l : Logged HeldSite K) (front : LogFront) (back : K) (kept : Kept Acquainted)
     → opened_alone l.machine ≡ opens_at asked → l.file.front ≡ front → back ≡ l.file.disk → StandsFor k l kept → Keeps k asked back front kept
 keeps {K} k asked l front back kept opened same is stands =
     subst (λ (f : LogFront). Keeps k asked back f kept) same
     (subst (λ (d : K). Keeps k asked d l.file.front kept) (sym is) (at_end k asked l kept opened stands))
 
 -- and so does one whose front is that with which its machine opened
-pub keeps_opening : {K : Type 0} (k : ADisk K) (asked : Daemon) (old new : Logged CoreWithLives K) (back : K) (kept : Kept Acquainted)
+pub keeps_opening : {K : Type 0} (k : ADisk K) (asked : Daemon) (old new : Logged HeldSite K) (back : K) (kept : Kept Acquainted)
     → opened_alone old.machine ≡ opens_at asked
     → opens_with new.file.front (opened_alone new.machine) ≡ opens_with old.file.front (opened_alone old.machine) → back ≡ new.file.disk
     → StandsFor k new kept → Keeps k asked back old.file.front kept
@@ -76,7 +76,7 @@ keeps_opening k asked old new back kept opened opening is stands =
     (same_front new.file.front old.file.front (opened_alone new.machine) (opened_alone old.machine) opening) is stands
 
 -- so it is where there was no memory to serve it, be it that its life has begun or not
-pub not_served : {K : Type 0} (k : ADisk K) (asked : Daemon) (life : List ℕ) (bodies : List (List ℕ)) (site : Acquainted) (old new : Logged CoreWithLives K) (back : K)
+pub not_served : {K : Type 0} (k : ADisk K) (asked : Daemon) (life : List ℕ) (bodies : List (List ℕ)) (site : Acquainted) (old new : Logged HeldSite K) (back : K)
     → opened_alone old.machine ≡ opens_at asked
     → opens_with new.file.front (opened_alone new.machine) ≡ opens_with old.file.front (opened_alone old.machine) → back ≡ new.file.disk
     → StandsFor k new (starts site bodies) ⊎ StandsFor k new (begun site bodies life)
@@ -87,7 +87,7 @@ not_served k asked life bodies site old new back opened opening is stands =
 
 -- a run of a log's machine, whose disk is handed back
 pub serves_file : {K : Type 0} (k : ADisk K) (asked : Daemon) (life : List ℕ) (bodies : List (List ℕ)) (site : Acquainted)
-    (old new : Logged CoreWithLives K) (back : K) (end : End) (before after : Option (List Seen))
+    (old new : Logged HeldSite K) (back : K) (end : End) (before after : Option (List Seen))
     → opened_alone old.machine ≡ opens_at asked
     → opens_with new.file.front (opened_alone new.machine) ≡ opens_with old.file.front (opened_alone old.machine) → back ≡ new.file.disk
     → IsRun kept_site (upkeep_rule asked.tidy asked.rules) (scope_of asked) (StandsFor k new) (begun site bodies life) end before after

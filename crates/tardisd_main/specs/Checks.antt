@@ -18,7 +18,7 @@ use Rattle.plain_dag.specs.Collection.{kept_states}
 use Rattle.record_store.specs.Stands.{held_reads}
 use Rattle.plain_site.specs.Site.{Site, opening}
 use Rattle.site_lives.specs.Acquainted.{Acquainted, unacquainted}
-use Rattle.rest_site.specs.Stands.{CoreWithLives, AcquaintedStands}
+use Rattle.rest_site.specs.Stands.{HeldSite, AcquaintedStands}
 use Rattle.site_log.specs.declared.ends.OpenEnd.{OpenEnd}
 use Rattle.site_log.specs.declared.ends.OpenEnd.TheVariants.{BadFront}
 use Rattle.site_log.specs.declared.replays.Found.{Found}
@@ -98,7 +98,7 @@ abbrev pub IsSpoiled : List ℕ → OpenEnd → Type 0
 IsSpoiled bytes why =
     TellsFirst bytes (Err why)
     ⊎ ((front : LogFront) × (HasFront bytes front × (((IsPlace (place_in front) → ⊥) × (why ≡ BadFront))
-    ⊎ ((site : CoreWithLives) × (AcquaintedStands site (opens_widest front) × Refuses resting site bytes (widest front) why)))))
+    ⊎ ((site : HeldSite) × (AcquaintedStands site (opens_widest front) × Refuses resting site bytes (widest front) why)))))
 
 -- what is told of the bytes of a file; a file that isn't good is told as a start tells that it doesn't open
 abbrev pub TellsBytes : List ℕ → DaemonEnd → Type 0

@@ -13,7 +13,7 @@ use Rattle.plain_site.specs.Sound.{IsSound}
 use Rattle.site_lives.specs.Acquainted.{Acquainted}
 use Rattle.site_lives.specs.Things.{all_at_rest}
 use Rattle.site_lives.specs.Bytes.{TakesBack}
-use Rattle.rest_site.specs.Stands.{CoreWithLives, AcquaintedStands}
+use Rattle.rest_site.specs.Stands.{HeldSite, AcquaintedStands}
 use Rattle.site_log.specs.declared.ends.OpenEnd.{OpenEnd}
 use Rattle.site_log.specs.declared.ends.OpenEnd.TheVariants.{Disk as DiskFailed, NotALog, OtherVersion, BadFront, OtherSite, OtherLimits, Damaged, Unfit, NoMemory}
 use Rattle.site_log.specs.declared.opens.FoundLog.{FoundLog}
@@ -59,7 +59,7 @@ module _ {K : Type 0} (k : ADisk K) where
   pub record IsRefused (asked : Daemon) (life : List ℕ) (disk back : K) (end : DaemonEnd) : Type 0 where
     pub why : OpenEnd
     pub tells : end ≡ not_opened why
-    pub bytes : (site : CoreWithLives) × (AcquaintedStands site (opens_at asked) × IsLogRefused resting k site disk (front_at asked life) why back)
+    pub bytes : (site : HeldSite) × (AcquaintedStands site (opens_at asked) × IsLogRefused resting k site disk (front_at asked life) why back)
     pub cause : why ≡ DiskFailed → Rose (k.faults disk) (k.faults back)
     pub safe : k.honest disk → OpeningLeaves k disk back (front_at asked life)
 

@@ -161,7 +161,7 @@ impl fmt::Display for FileFault {
             ),
             FileFault::Disk => write!(
                 f,
-                "the file's disk failed: nothing that was told is lost; see to the disk, and start again"
+                "the file's disk failed: nothing that was told is lost; see to the disk, and try again"
             ),
             FileFault::NotALog => write!(
                 f,
