@@ -6,6 +6,7 @@ use crate::exchange_rows::{CONSENTS, TWO_RECORDS, WAITED_NO_MORE, WAITS};
 use crate::file_rows::{COLLECTED, COMMITTED, KEYS_IN_TURN};
 use crate::floor_rows::{COLLECTED_CHAIN, RAISED_CHAIN};
 use crate::merge_rows::{BRANCHED, JOINED};
+use crate::of_steps::TALKS as STEPS;
 use crate::sites::{LIMITS, keys};
 use crate::talks::{Row, Talk, copied, put};
 use disk_forms::MemoryDisk;
@@ -17,7 +18,7 @@ use std::alloc::Global;
 use std::hash::RandomState;
 use std::process::Abort;
 use tardis_base::{Limits, Machine, ReplyBuf};
-use wire_talk::request_codes;
+use wire_talk::{reply_codes, request_codes};
 
 /// A site with its log.
 type Log = Logged<RestSite, MemoryDisk>;
@@ -25,7 +26,10 @@ type Log = Logged<RestSite, MemoryDisk>;
 /// Room for what is written to a disk.
 const ROOM: u32 = 67_108_864;
 
-/// Tables of rows that the first of so many sites is asked one after another.
+/// One more than the actors that worked rows name.
+const ACTORS: u16 = 10;
+
+/// Tables of rows that the first of so many sites is asked one after another, beside those of `of_steps`.
 const TALKS: [(u16, &[&str]); 7] = [
     (1, &[]),
     (1, &[COLLECTED]),
@@ -106,75 +110,318 @@ fn pull(rt: &impl Abort, alloc: Global, sites: u16) -> Vec<u8> {
     asked
 }
 
-/// Whether two sites answer this alike.
+/// Whether two sites answer this alike, into `out`.
 fn answer_alike(
     rt: &impl Abort,
     alloc: Global,
     one: &mut RestSite,
     other: &mut Log,
+    actor: u16,
     asked: &[u8],
+    out: &mut ReplyBuf,
 ) -> bool {
-    let mut out = ReplyBuf::new(alloc).expect(rt, "room");
     let mut also = ReplyBuf::new(alloc).expect(rt, "room");
-    one.act(0, asked, &mut out).expect(rt, "room");
-    other.answer(0, asked, &mut also).expect(rt, "room");
+    one.act(actor, asked, &mut also).expect(rt, "room");
+    other.answer(actor, asked, out).expect(rt, "room");
     out.bytes() == also.bytes()
 }
 
-/// Whether a site that starts from what a crash leaves of the disk rests as the one that never stopped: it tells the same leaves, and
-/// the same news.
-fn starts_alike(
+/// A site that starts from what a crash leaves of the disk.
+fn started(
     rt: &impl Abort,
     alloc: Global,
     keys: RandomState,
     limits: Limits,
     disk: MemoryDisk,
-    still: &mut RestSite,
-) -> bool {
+) -> Log {
     let site = new_site(rt, alloc, keys, limits);
-    let Some(mut again) = opened(alloc, site, crashed(rt, disk, 0), &limits) else {
-        return false;
-    };
-    let all = pull(rt, alloc, limits.sites);
-    again.machine().rests_as(still)
-        && answer_alike(rt, alloc, still, &mut again, &[request_codes::LEAVES])
-        && answer_alike(rt, alloc, still, &mut again, all.as_slice())
+    opened(alloc, site, crashed(rt, disk, 0), &limits).expect(rt, "a log")
 }
 
-/// How many times the log of the first of so many sites was told shorter, after each of the rows and behind them all.
-fn times_shortened(
+/// Whether a site that started tells the same leaves, the same counts and the same news as the one that never stopped.
+fn tells_alike(
     rt: &impl Abort,
     alloc: Global,
-    keys: RandomState,
     sites: u16,
-    tables: &[&str],
+    again: &mut Log,
+    still: &mut RestSite,
+) -> bool {
+    let mut out = ReplyBuf::new(alloc).expect(rt, "room");
+    let all = pull(rt, alloc, sites);
+    answer_alike(
+        rt,
+        alloc,
+        still,
+        again,
+        0,
+        &[request_codes::LEAVES],
+        &mut out,
+    ) && answer_alike(rt, alloc, still, again, 0, &[request_codes::STAT], &mut out)
+        && answer_alike(rt, alloc, still, again, 0, all.as_slice(), &mut out)
+}
+
+/// Ends the actor's session of the site that never stopped: whether there was one.
+fn had_session(rt: &impl Abort, still: &mut RestSite, actor: u16, out: &mut ReplyBuf) -> bool {
+    still
+        .act(actor, &[request_codes::CLOSE], out)
+        .expect(rt, "room");
+    out.bytes() == [reply_codes::CLOSED].as_slice()
+}
+
+/// Opens the actor's session anew in both, where the site that never stopped had one: whether both answer alike.
+fn opens_anew(
+    rt: &impl Abort,
+    alloc: Global,
+    again: &mut Log,
+    still: &mut RestSite,
+    actor: u16,
+    out: &mut ReplyBuf,
+) -> bool {
+    if had_session(rt, still, actor, out) {
+        answer_alike(
+            rt,
+            alloc,
+            still,
+            again,
+            actor,
+            &[request_codes::OPEN, 1],
+            out,
+        )
+    } else {
+        true
+    }
+}
+
+/// Ends each session of the site that never stopped, as a start does with all of them, and opens it anew in both: whether both
+/// answer alike.
+fn open_anew(rt: &impl Abort, alloc: Global, again: &mut Log, still: &mut RestSite) -> bool {
+    let mut out = ReplyBuf::new(alloc).expect(rt, "room");
+    let mut are_alike = true;
+    for actor in 1..ACTORS {
+        are_alike = are_alike && opens_anew(rt, alloc, again, still, actor, &mut out);
+    }
+    drop(out);
+    are_alike
+}
+
+/// How many of the replies of a site that started are as the rows say, which the one that never stopped answers as it does.
+fn as_before(
+    rt: &impl Abort,
+    alloc: Global,
+    again: &mut Log,
+    still: &mut RestSite,
+    rows: &[Row],
 ) -> u32 {
-    let limits = Limits { sites, ..LIMITS };
-    let disk = MemoryDisk::new(alloc, &[], ROOM, &[]).expect(rt, "room");
-    let site = new_site(rt, alloc, keys, limits);
-    let mut log = opened(alloc, site, disk, &limits).expect(rt, "a log");
-    let mut still = new_site(rt, alloc, keys, limits);
     let mut out = ReplyBuf::new(alloc).expect(rt, "room");
     let mut times = 0_u32;
-    let talk = Talk::of(rt, alloc, tables);
-    for row in talk.rows() {
-        assert!(rt; is_answered(rt, &mut log, &mut still, row, &mut out));
-        if is_shortened(rt, &mut log) {
+    for row in rows {
+        let asked = row.asked.as_slice();
+        assert!(rt; answer_alike(rt, alloc, still, again, row.actor, asked, &mut out));
+        if out.bytes() == row.told.as_slice() {
             times = times.saturating_add(1);
         }
     }
-    assert!(rt; starts_alike(rt, alloc, keys, limits, log.close(), &mut still));
     times
 }
 
-#[test]
-fn a_log_is_told_shorter_while_its_site_goes_on(rt: HostRuntime) {
-    let keys = keys(&rt);
+/// The rows behind which a log is told shorter: those from a place on, before another one.
+#[derive(Clone, Copy)]
+struct Told {
+    from: usize,
+    until: usize,
+}
+
+/// How many times the log of a site was told shorter behind these rows: both sites answer as the rows say.
+fn times_shortened(
+    rt: &impl Abort,
+    alloc: Global,
+    log: &mut Log,
+    still: &mut RestSite,
+    rows: &[Row],
+    told: Told,
+) -> u32 {
+    let mut out = ReplyBuf::new(alloc).expect(rt, "room");
     let mut times = 0_u32;
-    for (sites, tables) in TALKS {
-        times = times.saturating_add(times_shortened(&rt, rt.alloc(), keys, sites, tables));
+    for (place, row) in rows.iter().enumerate() {
+        assert!(rt; is_answered(rt, log, still, row, &mut out));
+        if told.from <= place && place < told.until && is_shortened(rt, log) {
+            times = times.saturating_add(1);
+        }
     }
-    assert!(rt; times >= 6);
+    times
+}
+
+/// How many times something was seen: that a log was told shorter, and that a site that started from one replied as a row says.
+#[derive(Clone, Copy)]
+struct Seen {
+    shortened: u32,
+    as_before: u32,
+}
+
+impl Seen {
+    /// Adds what else was seen.
+    fn note(&mut self, more: Seen) {
+        self.shortened = self.shortened.saturating_add(more.shortened);
+        self.as_before = self.as_before.saturating_add(more.as_before);
+    }
+}
+
+/// What a crash may find: the disk of a site whose log was told shorter so many times.
+#[derive(Drop)]
+struct Left {
+    disk: MemoryDisk,
+    shortened: u32,
+}
+
+/// Asks a site with its log, and one that never stops, what these rows ask, and tells the log shorter behind some of them.
+fn left_by(
+    rt: &impl Abort,
+    alloc: Global,
+    keys: RandomState,
+    limits: Limits,
+    still: &mut RestSite,
+    rows: &[Row],
+    told: Told,
+) -> Left {
+    let disk = MemoryDisk::new(alloc, &[], ROOM, &[]).expect(rt, "room");
+    let site = new_site(rt, alloc, keys, limits);
+    let mut log = opened(alloc, site, disk, &limits).expect(rt, "a log");
+    let shortened = times_shortened(rt, alloc, &mut log, still, rows, told);
+    Left {
+        disk: log.close(),
+        shortened,
+    }
+}
+
+/// A site that started rests as the one that never stopped, and answers these rows as that one does, once the sessions of both were
+/// opened anew: how many of its replies are as the rows say.
+fn goes_on_alike(
+    rt: &impl Abort,
+    alloc: Global,
+    sites: u16,
+    again: &mut Log,
+    still: &mut RestSite,
+    rows: &[Row],
+) -> u32 {
+    assert!(rt; again.machine().rests_as(still));
+    assert!(rt; open_anew(rt, alloc, again, still));
+    assert!(rt; tells_alike(rt, alloc, sites, again, still));
+    let times = as_before(rt, alloc, again, still, rows);
+    assert!(rt; tells_alike(rt, alloc, sites, again, still));
+    times
+}
+
+/// Asks a site what the rows before a place ask, tells its log shorter behind some of them, and starts a site from it, which answers
+/// the rows that are left.
+fn start_behind(
+    rt: &impl Abort,
+    alloc: Global,
+    keys: RandomState,
+    limits: Limits,
+    rows: &[Row],
+    place: usize,
+    told: Told,
+) -> Seen {
+    let (before, rest) = rows.split_at_checked(place).expect(rt, "rows");
+    let mut still = new_site(rt, alloc, keys, limits);
+    let Left { disk, shortened } = left_by(rt, alloc, keys, limits, &mut still, before, told);
+    let mut again = started(rt, alloc, keys, limits, disk);
+    let as_before = goes_on_alike(rt, alloc, limits.sites, &mut again, &mut still, rest);
+    drop(again);
+    drop(still);
+    Seen {
+        shortened,
+        as_before,
+    }
+}
+
+/// The row at a place alone.
+fn only(place: usize) -> Told {
+    Told {
+        from: place,
+        until: place.saturating_add(1),
+    }
+}
+
+/// Starts a site behind each of these rows, from a log that was told shorter there.
+fn start_behind_each(
+    rt: &impl Abort,
+    alloc: Global,
+    keys: RandomState,
+    limits: Limits,
+    rows: &[Row],
+    seen: &mut Seen,
+) {
+    for last in 0..rows.len() {
+        let told = only(last);
+        seen.note(start_behind(rt, alloc, keys, limits, rows, told.until, told));
+    }
+}
+
+/// Starts a site behind each of these rows, from a log that was told shorter half way there, and went on.
+fn start_further_on(
+    rt: &impl Abort,
+    alloc: Global,
+    keys: RandomState,
+    limits: Limits,
+    rows: &[Row],
+    seen: &mut Seen,
+) {
+    for last in 0..rows.len() {
+        let place = last.saturating_add(1);
+        let told = only(last / 2);
+        seen.note(start_behind(rt, alloc, keys, limits, rows, place, told));
+    }
+}
+
+/// Starts a site behind these rows, from a log that was told shorter behind each.
+fn start_behind_all(
+    rt: &impl Abort,
+    alloc: Global,
+    keys: RandomState,
+    limits: Limits,
+    rows: &[Row],
+    seen: &mut Seen,
+) {
+    let place = rows.len();
+    let told = Told {
+        from: 0,
+        until: place,
+    };
+    seen.note(start_behind(rt, alloc, keys, limits, rows, place, told));
+}
+
+// A start ends all sessions and transactions, so what is left of the rows is asked in sessions that were opened anew, also of the site
+// that never stopped: their replies are compared, byte by byte, whatever is answered.
+#[test]
+fn a_site_starts_from_a_short_log_behind_each_row(rt: HostRuntime) {
+    let keys = keys(&rt);
+    let mut seen = Seen {
+        shortened: 0,
+        as_before: 0,
+    };
+    for tables in STEPS {
+        let talk = Talk::of(&rt, rt.alloc(), tables);
+        start_behind_each(&rt, rt.alloc(), keys, LIMITS, talk.rows(), &mut seen);
+    }
+    assert!(rt; seen.shortened >= 100 && seen.as_before >= 1_000);
+}
+
+#[test]
+fn a_site_starts_from_a_short_log_that_went_on(rt: HostRuntime) {
+    let keys = keys(&rt);
+    let mut seen = Seen {
+        shortened: 0,
+        as_before: 0,
+    };
+    for (sites, tables) in TALKS {
+        let limits = Limits { sites, ..LIMITS };
+        let talk = Talk::of(&rt, rt.alloc(), tables);
+        start_behind_each(&rt, rt.alloc(), keys, limits, talk.rows(), &mut seen);
+        start_further_on(&rt, rt.alloc(), keys, limits, talk.rows(), &mut seen);
+        start_behind_all(&rt, rt.alloc(), keys, limits, talk.rows(), &mut seen);
+    }
+    assert!(rt; seen.shortened >= 100 && seen.as_before >= 1_000);
 }
 
 #[test]
@@ -185,17 +432,11 @@ fn a_log_of_more_keys_than_states_may_be_kept_is_told_shorter(rt: HostRuntime) {
         max_kept: 2,
         ..LIMITS
     };
-    let disk = MemoryDisk::new(alloc, &[], ROOM, &[]).expect(&rt, "room");
-    let site = new_site(&rt, alloc, keys, limits);
-    let mut log = opened(alloc, site, disk, &limits).expect(&rt, "a log");
-    let mut still = new_site(&rt, alloc, keys, limits);
-    let mut out = ReplyBuf::new(alloc).expect(&rt, "room");
     let talk = Talk::of(&rt, alloc, &[KEYS_IN_TURN]);
-    for row in talk.rows() {
-        assert!(rt; is_answered(&rt, &mut log, &mut still, row, &mut out));
-    }
-    assert!(rt; is_shortened(&rt, &mut log));
-    assert!(rt; starts_alike(&rt, alloc, keys, limits, log.close(), &mut still));
+    let rows = talk.rows();
+    let last = only(rows.len().saturating_sub(1));
+    let seen = start_behind(&rt, alloc, keys, limits, rows, last.until, last);
+    assert!(rt; seen.shortened == 1);
 }
 
 /// Asks a site with its log what these rows ask: whether it answers as they say.
@@ -212,19 +453,23 @@ fn is_talked(rt: &impl Abort, alloc: Global, log: &mut Log, table: &str) -> bool
     log.settle_now().is_ok()
 }
 
+/// What a crash leaves where early records wait.
+fn left_waiting(rt: &impl Abort, alloc: Global, keys: RandomState, limits: Limits) -> MemoryDisk {
+    let disk = MemoryDisk::new(alloc, &[], ROOM, &[]).expect(rt, "room");
+    let site = new_site(rt, alloc, keys, limits);
+    let mut log = opened(alloc, site, disk, &limits).expect(rt, "a log");
+    assert!(rt; is_talked(rt, alloc, &mut log, WAITS));
+    log.close()
+}
+
 #[test]
 fn what_waits_is_gone_after_a_start(rt: HostRuntime) {
-    let alloc = rt.alloc();
     let keys = keys(&rt);
     let limits = Limits { sites: 2, ..LIMITS };
-    let disk = MemoryDisk::new(alloc, &[], ROOM, &[]).expect(&rt, "room");
-    let site = new_site(&rt, alloc, keys, limits);
-    let mut log = opened(alloc, site, disk, &limits).expect(&rt, "a log");
-    assert!(rt; is_talked(&rt, alloc, &mut log, WAITS));
-    let disk = crashed(&rt, log.close(), 0);
-    let site = new_site(&rt, alloc, keys, limits);
-    let mut again = opened(alloc, site, disk, &limits).expect(&rt, "a log");
-    assert!(rt; is_talked(&rt, alloc, &mut again, WAITED_NO_MORE));
+    let left = left_waiting(&rt, rt.alloc(), keys, limits);
+    let mut again = started(&rt, rt.alloc(), keys, limits, left);
+    assert!(rt; is_talked(&rt, rt.alloc(), &mut again, WAITED_NO_MORE));
+    drop(again);
 }
 
 /// What a site is asked, by actor 1: it writes this value, whose length has these bytes, to a key, and commits.
@@ -289,7 +534,11 @@ fn before_last(text: &[u8], entries: usize) -> usize {
 /// What comes of a log on the disk: whether it is refused, and else whether its end counts as torn.
 fn is_taken(alloc: Global, site: RestSite, disk: MemoryDisk) -> Option<bool> {
     match open_log(alloc, site, disk, &front_of(&LIMITS)) {
-        Ok(opened) => Some(opened.found.is_torn),
+        Ok(opened) => {
+            let OpenedLog { log, found } = opened;
+            drop(log);
+            Some(found.is_torn)
+        }
         Err(_) => None,
     }
 }

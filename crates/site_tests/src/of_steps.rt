@@ -112,7 +112,7 @@ pub(crate) fn are_steps(
 }
 
 /// Tables of rows that are asked one after another.
-const TALKS: [&[&str]; 18] = [
+pub(crate) const TALKS: [&[&str]; 18] = [
     &[RIPPLE],
     &[COUNTED],
     &[LAST_COMMITS],
