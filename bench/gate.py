@@ -67,6 +67,9 @@ def print_table(seconds):
 
 
 def main(words):
+    if words[:1] in (["-h"], ["--help"]):
+        print(__doc__)
+        return 0
     seen, begun = {}, time.time()
     gate = subprocess.Popen(["rt", "ci", *words], cwd=TOP)
     while gate.poll() is None:

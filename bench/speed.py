@@ -331,6 +331,9 @@ def measured(program, folder, frames):
 def main():
     if len(sys.argv) < 2:
         sys.exit(__doc__)
+    if sys.argv[1] in ("-h", "--help"):
+        print(__doc__)
+        return
     program, wanted = sys.argv[1], sys.argv[2:]
     with tempfile.TemporaryDirectory() as folder:
         _, empty, idle, _ = measured(program, folder, [])
