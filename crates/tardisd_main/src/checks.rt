@@ -135,10 +135,12 @@ fn take_log(alloc: Global, site: RestSite, bytes: &[u8], front: &LogFront) -> Da
     ensures { TellsBytes bytes.now result }
 {
     let mut site = site;
-    match read_log(alloc, &mut site, bytes, &widest(front)) {
+    let end = match read_log(alloc, &mut site, bytes, &widest(front)) {
         Ok(found) => DaemonEnd::Checked(FileCheck::Log(checked(&site, &found, bytes.len()))),
         Err(end) => end_of(end),
-    }
+    };
+    drop(site);
+    end
 }
 
 /// Whether a log's front names a place.
