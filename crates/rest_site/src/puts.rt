@@ -14,6 +14,7 @@ use crate::notes::{Noted, raised};
 use record_spelling::{put_consent, put_newest, put_u8, put_u32};
 use session_core::SiteCore;
 use site_lives::NewLife;
+use site_lives::thing_codes::{COLLECTION, LIFE, PROMISE, STATE};
 use tardis_base::Consent;
 use wire_item::spellings_have_their_lengths;
 
@@ -29,7 +30,7 @@ pub(crate) fn put_lasting(core: &SiteCore, before: &Noted, log: &mut Vec<u8>)
 {
     spellings_have_their_lengths();
     if before.known < core.store().dag().known() {
-        put_u8(1, log);
+        put_u8(STATE, log);
         put_newest(core.store(), log);
         return;
     }
@@ -46,7 +47,7 @@ fn put_promise(promise: &Consent, log: &mut Vec<u8>)
     ensures len { vec_len log.new ≤ vec_len log.old + 17 }
     ensures capacity { vec_capacity log.old ≤ vec_capacity log.new }
 {
-    put_u8(2, log);
+    put_u8(PROMISE, log);
     put_consent(promise, log);
 }
 
@@ -58,7 +59,7 @@ fn put_collection(count: u32, log: &mut Vec<u8>)
     ensures capacity { vec_capacity log.old ≤ vec_capacity log.new }
 {
     if count != 0 {
-        put_u8(3, log);
+        put_u8(COLLECTION, log);
         put_u32(count, log);
     }
 }
@@ -71,7 +72,7 @@ pub(crate) fn put_life(new: &Option<NewLife>, log: &mut Vec<u8>)
     ensures capacity { vec_capacity log.old ≤ vec_capacity log.new }
 {
     if let Some(new) = new {
-        put_u8(4, log);
+        put_u8(LIFE, log);
         put_bytes(&new.number.to_be_bytes(), log);
         put_bytes(&new.life, log);
     }

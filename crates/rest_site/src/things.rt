@@ -20,6 +20,7 @@ use crate::floors::{Floors, read_floors};
 use crate::loading::{Begin, end, load_gone, load_line, load_state};
 use session_core::SiteCore;
 use site_checkpoint::Checkpoint;
+use site_lives::thing_codes::{COLLECTION, END, GONE, LIFE, LINE, PROMISE, ROW, STATE, TOLD};
 use site_lives::{Lives, NewLife};
 use std::alloc::Global;
 use tardis_base::{Consent, NoMemory, Record, StateId};
@@ -44,41 +45,27 @@ pub(crate) fn read_thing(reader: &mut Reader<'_>, alloc: Global) -> Option<Resul
     ensures { IsRead (thing_front reader.old) result reader.new }
 {
     let code = reader.u8()?;
-    if code == 1 {
-        return read_state(reader, alloc);
+    match code {
+        STATE => read_state(reader, alloc),
+        PROMISE => read_promise(reader),
+        COLLECTION => read_collection(reader),
+        LIFE => read_life(reader),
+        ROW => read_row(reader),
+        _ => read_part(code, reader, alloc),
     }
-    if code == 2 {
-        return read_promise(reader);
-    }
-    if code == 3 {
-        return read_collection(reader);
-    }
-    if code == 4 {
-        return read_life(reader);
-    }
-    if code == 5 {
-        return read_row(reader);
-    }
-    read_part(code, reader, alloc)
 }
 
 /// The part of a checkpoint, or its end, that stands behind its code.
 fn read_part(code: u8, reader: &mut Reader<'_>, alloc: Global) -> Option<Result<Thing, NoMemory>>
     ensures { IsRead (front_of_code code part_rows reader.old) result reader.new }
 {
-    if code == 6 {
-        return read_told(reader, alloc);
+    match code {
+        TOLD => read_told(reader, alloc),
+        LINE => read_line(reader),
+        GONE => read_gone(reader),
+        END => read_end(reader, alloc),
+        _ => None,
     }
-    if code == 7 {
-        return read_line(reader);
-    }
-    if code == 8 {
-        return read_gone(reader);
-    }
-    if code == 9 {
-        return read_end(reader, alloc);
-    }
-    None
 }
 
 /// A record.

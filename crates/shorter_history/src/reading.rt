@@ -1,12 +1,13 @@
 //! What is read of a log's things for a shorter history: which states arrived, below which, and what those with several parents write.
 
 use crate::past::Past;
+use site_lives::thing_codes::{COLLECTION, END, GONE, LIFE, LINE, PROMISE, ROW, STATE, TOLD};
 use std::alloc::Global;
 use tardis_base::{MAX_PARENTS, NoMemory, StateId};
 use wire_item::Reader;
 
 /// How many bytes a life has.
-const LIFE: usize = 16;
+const LIFE_BYTES: usize = 16;
 
 /// What is read of one record.
 #[derive(Drop)]
@@ -41,34 +42,34 @@ fn note_thing(
     arrival: &mut Arrival,
 ) -> Option<Result<(), NoMemory>> {
     match reader.u8()? {
-        1 | 6 => note_record(past, reader, arrival),
-        2 => {
+        STATE | TOLD => note_record(past, reader, arrival),
+        PROMISE => {
             let _ = reader.bytes(16)?;
             Some(Ok(()))
         },
-        3 => {
+        COLLECTION => {
             let _ = reader.u32()?;
             Some(Ok(()))
         },
-        4 => {
-            let _ = reader.bytes(2 + LIFE)?;
+        LIFE => {
+            let _ = reader.bytes(2 + LIFE_BYTES)?;
             Some(Ok(()))
         },
-        5 => {
+        ROW => {
             let site = reader.u16()?;
             let count = reader.u32()?;
             Some(past.arrive_in_row(site, count))
         },
-        7 => {
+        LINE => {
             let site = reader.u16()?;
             let count = reader.u32()?;
             Some(past.arrive_in_line(site, count))
         },
-        8 => {
+        GONE => {
             let _ = reader.id()?;
             Some(Ok(()))
         },
-        9 => {
+        END => {
             let floors = reader.u8()?;
             let _ = reader.bytes(usize::from(floors) * 14)?;
             Some(Ok(()))

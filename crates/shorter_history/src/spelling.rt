@@ -6,6 +6,7 @@ use crate::steps::{Step, Telling, Told};
 use crate::versions::{VersionPlace, first_of};
 use session_core::SiteCore;
 use site_lives::Lives;
+use site_lives::thing_codes::{END, GONE, LIFE, LINE, TOLD};
 use tardis_base::{Found, MAX_PARENTS, MAX_WRITES, StateId};
 
 /// Puts the bytes behind the others, where they don't pass the limit.
@@ -80,7 +81,7 @@ fn put_line(site: u16, count: u32, limit: usize, body: &mut Vec<u8>)
     ensures few { vec_len body.old ≤ limit → vec_len body.new ≤ limit }
     ensures capacity { vec_capacity body.old ≤ vec_capacity body.new }
 {
-    put_u8(7, limit, body);
+    put_u8(LINE, limit, body);
     put_u16(site, limit, body);
     put_u32(count, limit, body);
 }
@@ -90,7 +91,7 @@ fn put_gone(id: StateId, limit: usize, body: &mut Vec<u8>)
     ensures few { vec_len body.old ≤ limit → vec_len body.new ≤ limit }
     ensures capacity { vec_capacity body.old ≤ vec_capacity body.new }
 {
-    put_u8(8, limit, body);
+    put_u8(GONE, limit, body);
     put_id(id, limit, body);
 }
 
@@ -101,7 +102,7 @@ pub(crate) fn put_end(core: &SiteCore, limit: usize, body: &mut Vec<u8>)
     ensures capacity { vec_capacity body.old ≤ vec_capacity body.new }
 {
     let floors = core.book().floors();
-    put_u8(9, limit, body);
+    put_u8(END, limit, body);
     put_u8(u8::try_from(floors.len()).unwrap_or(u8::MAX), limit, body);
     for floor in floors {
         put_id(floor.place.state, limit, body);
@@ -117,7 +118,7 @@ pub(crate) fn put_life(lives: &Lives, site: u16, limit: usize, body: &mut Vec<u8
     ensures capacity { vec_capacity body.old ≤ vec_capacity body.new }
 {
     if let Some(life) = lives.of(site) {
-        put_u8(4, limit, body);
+        put_u8(LIFE, limit, body);
         put_u16(site, limit, body);
         put(&life, limit, body);
     }
@@ -136,7 +137,7 @@ fn put_record(
     ensures few { vec_len body.old ≤ limit → vec_len body.new ≤ limit }
     ensures capacity { vec_capacity body.old ≤ vec_capacity body.new }
 {
-    put_u8(6, limit, body);
+    put_u8(TOLD, limit, body);
     put_id(told.id, limit, body);
     let parents = told.parents.min(MAX_PARENTS);
     put_u8(parents as u8, limit, body);

@@ -7,6 +7,7 @@ mod lasting_laws;
 mod laws;
 mod lives;
 mod rows;
+pub mod thing_codes;
 
 pub use lasting_laws::{
     larger_limits_take_the_same_bytes, lives_last_beside_the_site, what_lasts_goes_on,
