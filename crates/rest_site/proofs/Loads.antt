@@ -89,18 +89,21 @@ pub not-begun : (limits : Limits) (old new : Option Loaded) (p : Part) (result :
 not-begun limits old new p (Ok taken) before behind is t loads = absurd (both_ways false refl is)
 not-begun limits old new p (Err fault) before behind is t loads = subst (λ (l : Option Loaded). LoadingStands limits l t) (before ∙ sym behind) loads
 
--- the part was told to the checkpoint that was taken out
-pub part-loaded : (limits : Limits) (old : Option Loaded) (between new : Loaded) (p : Part) (result : Result Bool NoMemory) →
+-- the part was told to the checkpoint that was taken out, which was put back then
+pub part-loaded : (limits : Limits) (old left : Option Loaded) (between new : Loaded) (p : Part) (result : Result Bool NoMemory) →
     ((t : Told) → LoadingStands limits old t → LoadingStands limits (Some between) t) →
-    new.store.table.limits ≡ between.store.table.limits → TakesPartThere between new p result → TakesPart limits old (Some new) p result
-part-loaded limits old between new p result stands same took t loads =
-    let there = stands t loads in
-    go (same ∙ there.1) result (subst (λ (l : Limits). TakenUnder l new t p result) there.1 (took t there.0))
+    new.store.table.limits ≡ between.store.table.limits → TakesPartThere between new p result → left ≡ Some new → TakesPart limits old left p result
+part-loaded limits old left between new p result stands same took put = subst (λ (l : Option Loaded). TakesPart limits old l p result) (sym put) put-back
   where
-    go : new.store.table.limits ≡ limits → (taken : Result Bool NoMemory) → TakenUnder limits new t p taken → PartTakenBy limits (Some new) p t taken
-    go is (Ok true) h = (h.0, (h.1, is))
-    go is (Ok false) h = (h.0, (h.1, is))
-    go is (Err fault) h = (h, is)
+    go : new.store.table.limits ≡ limits → (t : Told) → (taken : Result Bool NoMemory) → TakenUnder limits new t p taken → PartTakenBy limits (Some new) p t taken
+    go is t (Ok true) h = (h.0, (h.1, is))
+    go is t (Ok false) h = (h.0, (h.1, is))
+    go is t (Err fault) h = (h, is)
+
+    put-back : TakesPart limits old (Some new) p result
+    put-back t loads =
+        let there = stands t loads in
+        go (same ∙ there.1) t result (subst (λ (l : Limits). TakenUnder l new t p result) there.1 (took t there.0))
 
 -- ===== The end
 

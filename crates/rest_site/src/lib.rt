@@ -75,8 +75,8 @@ impl RestSite {
         ensures stands { IfOk result (λ site. AcquaintedStands site (unacquainted (opening limits own))) }
         ensures opening { IfOk result (λ site. opened_alone site ≡ unacquainted (opening limits own)) }
     {
-        let core = SiteCore::new(alloc, keys, limits, own)?;
         let past = Past::new(alloc, limits.sites)?;
+        let core = SiteCore::new(alloc, keys, limits, own)?;
         Ok(RestSite {
             core,
             lives: Lives::new(),

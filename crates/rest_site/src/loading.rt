@@ -17,6 +17,7 @@ use session_core::SiteCore;
 use site_checkpoint::Checkpoint;
 use std::alloc::Global;
 use std::hash::RandomState;
+use std::mem;
 use tardis_base::{NoMemory, Record, StateId};
 
 /// With what a checkpoint begins: where its memory comes from, and the seed by which its keys are hashed.
@@ -44,6 +45,13 @@ fn taken_out(
     }
 }
 
+/// Puts the checkpoint back.
+fn put_back(loading: &mut Option<Checkpoint>, checkpoint: Checkpoint)
+    ensures { loading.new ≡ Some checkpoint }
+{
+    drop(mem::replace(loading, Some(checkpoint)));
+}
+
 /// The state of this record is told to have arrived.
 pub(crate) fn load_state(
     core: &SiteCore,
@@ -57,7 +65,7 @@ pub(crate) fn load_state(
 {
     let mut checkpoint = taken_out(core, loading, begin)?;
     let taken = checkpoint.take_state(rec);
-    *loading = Some(checkpoint);
+    put_back(loading, checkpoint);
     taken
 }
 
@@ -74,7 +82,7 @@ pub(crate) fn load_line(
 {
     let mut checkpoint = taken_out(core, loading, begin)?;
     let taken = checkpoint.take_line(site, count);
-    *loading = Some(checkpoint);
+    put_back(loading, checkpoint);
     taken
 }
 
@@ -90,7 +98,7 @@ pub(crate) fn load_gone(
 {
     let mut checkpoint = taken_out(core, loading, begin)?;
     let taken = checkpoint.take_gone(id);
-    *loading = Some(checkpoint);
+    put_back(loading, checkpoint);
     Ok(taken)
 }
 
@@ -110,11 +118,12 @@ pub(crate) fn end(
 {
     let checkpoint = taken_out(core, loading, begin)?;
     if !is_blank(core) {
+        drop(checkpoint);
         return Ok(false);
     }
     match checkpoint.end(core.book().own_site(), floors.as_slice())? {
         Some(site) => {
-            *core = site;
+            drop(mem::replace(core, site));
             Ok(true)
         },
         None => Ok(false),

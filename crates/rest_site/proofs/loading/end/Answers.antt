@@ -25,18 +25,18 @@ pub returns-in-Some-clause-taken : goal.returns-in-Some-clause-taken
 returns-in-Some-clause-taken c =
     ends c.args.core.now c.args.loading.now c.in_ok-checkpoint.checkpoint c.own_site.result (floors_told c.args.floors.now)
     (c.own_site.ensures.is ∙ ap (λ (b : Book). b.own) c.book.ensures.is)
-    c.in_ok-checkpoint.ensures.stands c.in-Some.site
-    (ended-so c.in_ok-checkpoint.checkpoint c.own_site.result c.as_slice.result.now c.args.floors.now c.in_ok-site.field-0 (Some c.in-Some.site)
-    c.as_slice.ensures c.in-Some.is c.in_ok-site.ensures.ended)
+    c.in_ok-checkpoint.ensures.stands c.replace.new.dest
+    (ended-so c.in_ok-checkpoint.checkpoint c.own_site.result c.as_slice.result.now c.args.floors.now c.in_ok-site.field-0 (Some c.replace.new.dest)
+    c.as_slice.ensures (c.in-Some.is ∙ ap Some (sym c.replace.ensures.after)) c.in_ok-site.ensures.ended)
     (λ site stands. sym (c.is_blank.ensures site stands) ∙ c.if-not-is_blank.false)
 
 pub returns-in-Some-clause-opening : goal.returns-in-Some-clause-opening
 returns-in-Some-clause-opening c =
     ends-opening c.args.core.now c.args.loading.now c.in_ok-checkpoint.checkpoint c.own_site.result (floors_told c.args.floors.now)
     (c.own_site.ensures.is ∙ ap (λ (b : Book). b.own) c.book.ensures.is)
-    c.in_ok-checkpoint.ensures.stands c.in-Some.site c.requires.stands
-    (opened-so c.in_ok-site.field-0 c.in-Some.site (opening c.in_ok-checkpoint.checkpoint.store.table.limits c.own_site.result) c.in-Some.is
-    c.in_ok-site.ensures.opening)
+    c.in_ok-checkpoint.ensures.stands c.replace.new.dest c.requires.stands
+    (opened-so c.in_ok-site.field-0 c.replace.new.dest (opening c.in_ok-checkpoint.checkpoint.store.table.limits c.own_site.result)
+    (c.in-Some.is ∙ ap Some (sym c.replace.ensures.after)) c.in_ok-site.ensures.opening)
 
 pub returns-in-None-clause-taken : goal.returns-in-None-clause-taken
 returns-in-None-clause-taken c =

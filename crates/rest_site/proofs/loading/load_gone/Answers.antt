@@ -13,5 +13,5 @@ returns-in_err-checkpoint c =
 
 pub returns : goal.returns
 returns c =
-    part-loaded c.args.core.now.store.table.limits c.args.loading.now c.in_ok-checkpoint.checkpoint c.take_gone-taken.new.self (ToldGone c.args.id) (Ok c.take_gone-taken.result)
-    c.in_ok-checkpoint.ensures.stands c.take_gone-taken.ensures.limits c.take_gone-taken.ensures.taken
+    part-loaded c.args.core.now.store.table.limits c.args.loading.now c.put_back.new.loading c.in_ok-checkpoint.checkpoint c.take_gone-taken.new.self (ToldGone c.args.id) (Ok c.take_gone-taken.result)
+    c.in_ok-checkpoint.ensures.stands c.take_gone-taken.ensures.limits c.take_gone-taken.ensures.taken c.put_back.ensures

@@ -12,5 +12,5 @@ returns-in_err-checkpoint c =
 
 pub returns : goal.returns
 returns c =
-    part-loaded c.args.core.now.store.table.limits c.args.loading.now c.in_ok-checkpoint.checkpoint c.take_line-taken.new.self (ToldLine c.args.site c.args.count) c.take_line-taken.result
-    c.in_ok-checkpoint.ensures.stands c.take_line-taken.ensures.limits c.take_line-taken.ensures.taken
+    part-loaded c.args.core.now.store.table.limits c.args.loading.now c.put_back.new.loading c.in_ok-checkpoint.checkpoint c.take_line-taken.new.self (ToldLine c.args.site c.args.count) c.take_line-taken.result
+    c.in_ok-checkpoint.ensures.stands c.take_line-taken.ensures.limits c.take_line-taken.ensures.taken c.put_back.ensures

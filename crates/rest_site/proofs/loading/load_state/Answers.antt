@@ -12,5 +12,5 @@ returns-in_err-checkpoint c =
 
 pub returns : goal.returns
 returns c =
-    part-loaded c.args.core.now.store.table.limits c.args.loading.now c.in_ok-checkpoint.checkpoint c.take_state-taken.new.self (ToldState c.args.rec) c.take_state-taken.result
-    c.in_ok-checkpoint.ensures.stands c.take_state-taken.ensures.limits c.take_state-taken.ensures.taken
+    part-loaded c.args.core.now.store.table.limits c.args.loading.now c.put_back.new.loading c.in_ok-checkpoint.checkpoint c.take_state-taken.new.self (ToldState c.args.rec) c.take_state-taken.result
+    c.in_ok-checkpoint.ensures.stands c.take_state-taken.ensures.limits c.take_state-taken.ensures.taken c.put_back.ensures
