@@ -1,5 +1,5 @@
 //! Tests of the parts, over their public calls: what no clause of theirs says, and no row of a whole site shows (`site_tests`).
-//! Bytes, lines, devices, loops, the trail, the lock, sockets, and the texts of faults.
+//! Bytes, lines, devices, loops, the trail, the lock, peers, sockets, and the texts of faults.
 //!
 //! A crate with tests of its own is proved once more for them; so these stand here (`docs/ADDING.md`, 'A test').
 #![tactic(auto)]
@@ -22,6 +22,8 @@ mod of_log_text;
 mod of_shell_text;
 #[cfg(test)]
 mod of_site_checkpoint;
+#[cfg(test)]
+mod of_site_peers;
 #[cfg(test)]
 mod of_site_run;
 #[cfg(test)]

@@ -14,8 +14,6 @@ mod moments;
 mod peers;
 mod pulls;
 mod questions;
-#[cfg(test)]
-mod tests;
 mod times;
 
 pub use deeds::{Deed, Failure};

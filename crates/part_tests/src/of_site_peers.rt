@@ -1,10 +1,10 @@
-//! What no clause says: that memory suffices for exchanges, and bytes from outside.
+//! Exchanges of a peer: that memory suffices for them, and bytes from outside.
 
 ghost use Rattle.std.specs.Prelude.{◌≡◌, ◌==◌, ◌∷◌, [], ℕ, true, length, if◌then◌else◌};
 ghost use Rattle.std.specs.Prelude.{refl};
 
-use crate::{Deed, Failure, Peer};
 use rest_machine::InMemory;
+use site_peers::{Deed, Peer};
 use std::alloc::Global;
 use tardis_base::{Machine, NoMemory, ReplyBuf};
 
