@@ -1,7 +1,7 @@
 -- Floors that are told at the end, and the site that stands with them.
 use Rattle.std.proofs.Common.{◌≡◌, ℕ, ◌+◌, ◌<◌, ◌≤◌, ◌^◌, Bool, true, false, ◌&&◌, not, nat_le, List, [], ◌∷◌, length, map, drop, get_or, Some, IsTrue, refl, sym, ap, ap₂, subst, ◌∙◌}
 use Rattle.std.specs.List.{All, list_all}
-use Rattle.std.proofs.lemmas.Bool.{and_parts, and_from, le-leb, lt-ltb, eq-eqb, ne_eqb}
+use Rattle.std.proofs.lemmas.Bool.{and_parts, and_from, le-leb, lt-ltb, eq-eqb}
 use Rattle.std.proofs.lemmas.List.{drop_more}
 use Rattle.std.proofs.lemmas.List.Elements.{All-head, All-tail}
 use Rattle.tardis_base.specs.declared.ids.StateId.{StateId}
@@ -74,13 +74,6 @@ kept-is-floor t n f kept few small =
     (and_from (known && stated) (is_u32 f.number) (and_from known stated first (le-leb f.stated (count_of_site t.dag n) few)) (lt-ltb f.number (2 ^ 32) small)) kept
 
 -- ===== All floors
-
--- where there are more or fewer than sites they don't fit
-pub miscounted-unfit : (limits : Limits) (t : Told) (fs : List Floor) → (length fs ≡ limits.sites → ⊥) → fits_floors limits t fs ≡ false
-miscounted-unfit limits t fs ne =
-    ap
-    (λ b. b && are_sound_floors t.dag 1 fs && list_all (λ (f : Floor). is_kept t.dag t.collected f.state) fs && list_all (is_closed t.dag fs) t.collected)
-    (ne_eqb (length fs) limits.sites ne)
 
 -- where there is one for each site, they fit if each may be that of its site, and all that is collected is closed under them
 pub fit-by-each : (limits : Limits) (t : Told) (fs : List Floor) → length fs ≡ limits.sites →
