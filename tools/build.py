@@ -5,13 +5,11 @@ and built first.
 usage: tools/build.py PROGRAM [--unproved] [WORD ..]
 
 `./tardis` and `./tardisd` call it. The crates below the program are proved side by side: as many as there are processors
-and memory for, each once those that it stands on are there, and first those that hold up most of the others. What is done
-stays in the crates' out/ folders, also what an interrupted build has done of a crate, and the next build goes on from there.
+and memory for, each once those that it stands on are there, and first those that hold up most of the others.
 
-`rt` works on one crate of a folder of crates at a time, and on none of those below it meanwhile. So each crate is proved in
-a lane: a folder of crates of its own, which has the sources and the libraries below as links to the same files, and from
-which the crate's out/ is moved back. That the libraries are good is judged by `rt` alone, by the sums of all that they were
-made from: by the last step, `rt run` over all of them, too.
+Each is proved from nothing by the toolchain's `rattle`, as the merge gate does it: over the statements of the crates below,
+whose proofs aren't loaded again. Its own statements are kept in its folder out/statements/, beside a sum of all that they
+were made from, so what is proved stays proved: also of a build that was interrupted, which goes on with the next crate.
 
 With --unproved the sources are run at once, by `rt try`, and nothing of that run is proved.
 """
@@ -20,6 +18,7 @@ import contextlib
 import fcntl
 import hashlib
 import os
+import secrets
 import shutil
 import signal
 import subprocess
@@ -48,49 +47,119 @@ def stop(text):
     sys.exit(STOPPED)
 
 
-class Crate:
-    """A crate of the repository: its line, those that it stands on, all below it, when its text last changed, and how long
-    its proof takes, roughly, in seconds of one quiet processor (`seconds`)."""
+def stop_without_rt(program):
+    if not shutil.which("rt"):
+        stop(f"{program}: the command rt of the toolchain isn't on the PATH; README.md says which one is needed")
 
-    def __init__(self, name, line, deps):
-        self.name, self.line, self.deps = name, line, deps
+
+class Toolchain:
+    """The folder of the toolchain, and the words of its commands."""
+
+    def __init__(self, program):
+        stop_without_rt(program)
+        # (it prints the path of a page that lies in the folder)
+        page = subprocess.run(["rt", "doc"], stdout=subprocess.PIPE, check=True).stdout
+        self.folder = os.path.dirname(os.fsdecode(page).strip())
+        self.rattle = self.place("bin/rattle")
+        self.version = subprocess.run(["rt", "version"], stdout=subprocess.PIPE, check=True).stdout
+
+    def place(self, path):
+        return os.path.join(self.folder, path)
+
+    def keeps_statements(self):
+        """Whether a crate can be proved over the statements of those below."""
+        if not all(map(os.path.isfile, (self.rattle, self.place("bin/rattle-link")))):
+            return False
+        told = subprocess.run([self.rattle, "build", "--help"], stdout=subprocess.PIPE, stderr=subprocess.STDOUT, check=False)
+        return b"--statements" in told.stdout
+
+    def build(self, crate, jobs, target):
+        """The words that prove the crate from nothing, and write its statements, or its program not yet linked."""
+        libraries = {it: self.place(f"rlibs/{it}.rlib") for it in ("std", *crate.of_kit)}
+        libraries.update((it.name, it.rlib) for it in crate.below if it.name in crate.deps)
+        words = [self.rattle, "build", "--crate-name", crate.name, crate.root]
+        for name, rlib in libraries.items():
+            words += ["--extern", f"{name}={rlib}"]
+        for folder in (self.place("rlibs"), *(os.path.dirname(it.rlib) for it in crate.below)):
+            words += ["-L", f"dependency={folder}"]
+        words += ["--antt-project", self.place("rattle/logic/antt-project.json"), "--logic-built", self.place("logic_built")]
+        words += ["--links", f"{crate.name}=", "--jobs", str(jobs), "-o", target]
+        return words + (["--toolchain", self.place("toolchain"), "--backend", "llvm"] if crate.is_program else ["--statements"])
+
+    def link(self, made, target):
+        """The words that link a program."""
+        words = [self.place("bin/rattle-link"), "--target", "x86_64-unknown-linux-gnu", "--toolchain", self.place("toolchain")]
+        return [*words, "-o", target, made, self.place("c/libos_c.a"), self.place("c/liblibc_c.a")]
+
+
+class Crate:
+    """A crate of the repository: the crates of the repository that it stands on, the toolchain's that it uses, all below it,
+    when its text last changed, and how long its proof takes, roughly, in seconds of one quiet processor (`seconds`)."""
+
+    def __init__(self, name, deps, of_kit):
+        self.name, self.deps, self.of_kit, self.below = name, deps, of_kit, []
         self.folder = os.path.join(TOP, "crates", name)
-        files = [os.path.join(at, it) for part in PARTS for at, _, found in os.walk(os.path.join(self.folder, part)) for it in found]
-        self.changed = max(map(os.path.getmtime, files), default=0)
-        self.code = sum(os.path.getsize(it) for it in files if it.endswith(".rt"))
-        self.below = []
+        self.is_program = os.path.isfile(os.path.join(self.folder, "src/main.rt"))
+        self.root = "src/main.rt" if self.is_program else "src/lib.rt"
+        self.home = os.path.join(self.folder, "out/statements")
+        self.rlib, self.stamp = os.path.join(self.home, f"{name}.rlib"), os.path.join(self.home, "stamp")
+        walked = [os.path.join(at, it) for part in PARTS for at, _, found in os.walk(os.path.join(self.folder, part)) for it in found]
+        self.files = sorted(walked)
+        self.changed = max(map(os.path.getmtime, self.files), default=0)
+        self.code = sum(os.path.getsize(it) for it in self.files if it.endswith(".rt"))
 
     @property
     def seconds(self):
         """By the bytes of its code, and of all code below, whose contracts are loaded: a line through forty crates."""
         return max(5, self.code / 600 + sum(it.code for it in self.below) / 15_000)
 
-    def made(self):
-        """When the crate's library, or its program, was made; 0 where there is none."""
-        for it in ("out/rlib/stamp", f"out/{self.name}"):
-            with contextlib.suppress(OSError):
-                return os.path.getmtime(os.path.join(self.folder, it))
-        return 0
+    def sum_up(self, version):
+        """Sums up all that its statements are made from: its text, the toolchain, and the very statements of those below."""
+        marks = [it.mark for it in self.below if it.name in self.deps]
+        found = hashlib.sha256(repr((version, self.name, self.of_kit, marks)).encode())
+        for path in self.files:
+            with open(path, "rb") as file:
+                found.update(repr((os.path.relpath(path, self.folder), file.read())).encode())
+        return found.hexdigest()
 
-    def is_made(self):
-        """Whether it was made since its text and that of all below changed, as far as times tell: `rt` judges by sums."""
-        return self.made() > max(it.changed for it in [self, *self.below])
+    def look_for_proof(self, version):
+        """Looks whether its statements are there, and were made from all that is there now; those below come first."""
+        self.mark = ""
+        with contextlib.suppress(OSError):
+            with open(self.stamp, encoding="ascii") as file:
+                found = file.read()
+            if all(it.mark for it in self.below) and found.startswith(self.sum_up(version)):
+                self.mark = found
+
+    def keep(self, total):
+        """Notes what its statements were made from, now that they are there. (A mark of their own tells them from those of
+        another run, since what is made over statements fits no others.)"""
+        self.mark = f"{total} {secrets.token_hex(8)}"
+        with open(self.stamp, "w", encoding="ascii") as file:
+            file.write(self.mark)
+
+    def is_current(self):
+        """Whether the program is newer than all text that it is made from, whoever built it."""
+        with contextlib.suppress(OSError):
+            made = os.path.getmtime(os.path.join(self.folder, "out", self.name))
+            return made > max(os.path.getmtime(os.path.join(TOP, "crates.txt")), *(it.changed for it in [self, *self.below]))
+        return False
 
 
 def crates_below(program):
     """The program's crate and those below it, each behind those that it stands on."""
     with open(os.path.join(TOP, "crates.txt"), encoding="utf-8") as file:
-        told = [line.partition("#")[0].strip() for line in file]
-    lines = {line.split()[0].rstrip(":"): line for line in told if line}
+        told = [line.partition("#")[0].partition(":") for line in file]
+    lines = {name.split()[0]: deps.split() for name, colon, deps in told if colon}
     found = {}
 
     def visit(name):
         if name not in found:
-            deps = [it for it in lines[name].partition(":")[2].split() if it in lines]
+            deps = [it for it in lines[name] if it in lines]
             for it in deps:
                 visit(it)
-            crate = found[name] = Crate(name, lines[name], deps)
-            crate.below = [it for it in found.values() if any(it is found[dep] or it in found[dep].below for dep in crate.deps)]
+            crate = found[name] = Crate(name, deps, [it for it in lines[name] if it not in lines])
+            crate.below = [it for it in found.values() if any(it is found[dep] or it in found[dep].below for dep in deps)]
 
     visit(program)
     return found
@@ -110,7 +179,7 @@ def free_memory():
 
 
 def time_left(crates, todo, lanes):
-    """The seconds that these crates take in so many lanes, each once those below are there, the longest way first."""
+    """The seconds that these crates take, so many side by side, each once those below are there, the longest way first."""
     longest, done, at, running = behind(crates), set(crates) - set(todo), 0.0, {}
     todo = set(todo)
     while todo or running:
@@ -124,71 +193,50 @@ def time_left(crates, todo, lanes):
     return at
 
 
-def link(source, target):
-    try:
-        os.link(source, target)
-    except OSError:
-        # (the lanes lie on another file system)
-        shutil.copy2(source, target)
+class Guard:
+    """Ends all that was started in its group of processes once this process has ended, however it did."""
+
+    def __init__(self):
+        given, self.held = os.pipe()
+        ends = {"stdin": given, "stdout": subprocess.DEVNULL, "stderr": subprocess.DEVNULL}
+        self.shell = subprocess.Popen(["sh", "-c", "read _; kill -9 0"], preexec_fn=os.setpgrp, **ends)
+        os.close(given)
+
+    def start(self, words, folder, log):
+        join = lambda: os.setpgid(0, self.shell.pid)
+        return subprocess.Popen(words, cwd=folder, stdin=subprocess.DEVNULL, stdout=log, stderr=log, preexec_fn=join)
+
+    def close(self):
+        os.close(self.held)
+        self.shell.wait()
 
 
-class Lane:
-    """A folder of crates in which one crate is proved at a time."""
+class Proof:
+    """The proof of one crate that is at work."""
 
-    def __init__(self, folder):
-        self.folder, self.crate, self.process, self.log, self.lines = folder, None, None, None, set()
-        os.makedirs(os.path.join(folder, "crates"))
-        if os.path.exists(os.path.join(TOP, "HANDLES")):
-            shutil.copy2(os.path.join(TOP, "HANDLES"), folder)
-
-    def place(self, crate, part=""):
-        return os.path.join(self.folder, "crates", crate.name, part)
-
-    def start(self, crate, jobs, is_alone):
-        for it in [crate, *crate.below]:
-            for part in PARTS if it is crate else (*PARTS, "out/rlib"):
-                source = os.path.join(it.folder, part)
-                if os.path.isdir(source) and not os.path.exists(self.place(it, part)):
-                    shutil.copytree(source, self.place(it, part), copy_function=link)
-        self.lines.update(it.line for it in [crate, *crate.below])
-        with open(os.path.join(self.folder, "crates.txt"), "w", encoding="utf-8") as file:
-            file.write("".join(f"{it}\n" for it in sorted(self.lines)))
-        if os.path.isdir(os.path.join(crate.folder, "out")):
-            shutil.move(os.path.join(crate.folder, "out"), self.place(crate, "out"))
-        self.began = time.time()
-        self.crate, self.is_alone, self.log = crate, is_alone, os.path.join(self.folder, f"{crate.name}.log")
-        with open(self.log, "wb") as log:
-            words = ["rt", "lib", "--jobs", str(jobs)]
-            self.process = subprocess.Popen(words, cwd=self.place(crate), stdin=subprocess.DEVNULL, stdout=log, stderr=log)
-
-    def end(self):
-        """Moves what was made to where it belongs."""
-        if self.process.poll() is None:
-            self.process.terminate()
-        self.process.wait()
-        with contextlib.suppress(FileNotFoundError):
-            # (so that text that changed meanwhile is newer)
-            os.utime(self.place(self.crate, "out/rlib/stamp"), (self.began, self.began))
-        with contextlib.suppress(FileNotFoundError):
-            shutil.move(self.place(self.crate, "out"), os.path.join(self.crate.folder, "out"))
-        self.process = None
+    def __init__(self, crate, total, words, log, guard, is_alone):
+        self.crate, self.total, self.log, self.is_alone = crate, total, log, is_alone
+        with open(log, "wb") as file:
+            self.process = guard.start(words, crate.folder, file)
 
 
 class Build:
     """The proofs of a program's crates."""
 
-    def __init__(self, program, crates):
-        self.program, self.crates, self.began = program, crates, time.monotonic()
-        self.todo = [name for name in crates if name != program and not crates[name].is_made()]
+    def __init__(self, program, crates, toolchain, guard, logs):
+        self.program, self.crates, self.toolchain = program, crates, toolchain
+        self.guard, self.logs, self.began = guard, logs, time.monotonic()
+        for crate in crates.values():
+            crate.look_for_proof(toolchain.version)
+        self.todo = [name for name in crates if name != program and not crates[name].mark]
         self.longest = behind(crates)
-        quota = processors()
-        self.width = max(1, min(quota, free_memory() // ROOM))
+        self.width = max(1, min(processors(), free_memory() // ROOM))
         self.at_first = time_left(crates, [*self.todo, program], self.width)
-        self.alone, self.lanes, self.told = set(), [], self.began
+        self.alone, self.running, self.told = set(), [], self.began
 
     def minutes_left(self):
         """About how many minutes the rest takes, by how fast it went so far."""
-        running = [it.crate.name for it in self.lanes if it.process]
+        running = [it.crate.name for it in self.running]
         left = time_left(self.crates, [*self.todo, *running, self.program], self.width)
         past, gone = self.at_first - left, time.monotonic() - self.began
         pace = (gone + 60) / (past + 60)
@@ -196,55 +244,50 @@ class Build:
 
     def tell(self, what):
         """Tells how far it is, and what just came to be or is at work."""
-        running = sum(1 for it in self.lanes if it.process)
-        done = len(self.crates) - len(self.todo) - running - 1
+        done = len(self.crates) - len(self.todo) - len(self.running) - 1
         say(f"[{done} of {len(self.crates)}] {what}, about {minutes(self.minutes_left())} more")
         self.told = time.monotonic()
 
     def run(self):
-        home = lanes_home()
-        put_back(home, self.crates)
+        """Proves the crates that aren't proved yet."""
         say(f"{self.program}: proving {len(self.todo) + 1} crates first, {self.width} side by side; about {minutes(self.minutes_left())}.")
         say("What is done stays done: this may be stopped, and goes on from there the next time.")
-        try:
-            self.lanes = [Lane(os.path.join(home, str(it))) for it in range(self.width)]
-            while self.todo or any(it.process for it in self.lanes):
-                self.start_ready()
-                time.sleep(0.2)
-                for lane in self.lanes:
-                    if lane.process and lane.process.poll() is not None:
-                        self.finish(lane)
-                if time.monotonic() - self.told > SILENCE:
-                    self.tell(f"({', '.join(it.crate.name for it in self.lanes if it.process)})")
-        finally:
-            for lane in self.lanes:
-                if lane.process:
-                    lane.end()
-            shutil.rmtree(home, ignore_errors=True)
+        while self.todo or self.running:
+            self.start_ready()
+            time.sleep(0.2)
+            for proof in [it for it in self.running if it.process.poll() is not None]:
+                self.running.remove(proof)
+                self.finish(proof)
+            if time.monotonic() - self.told > SILENCE:
+                self.tell(f"({', '.join(it.crate.name for it in self.running)})")
 
     def start_ready(self):
-        idle = [it for it in self.lanes if not it.process]
-        lacking = {*self.todo, *(it.crate.name for it in self.lanes if it.process)}
+        lacking = {*self.todo, *(it.crate.name for it in self.running)}
         ready = sorted((it for it in self.todo if lacking.isdisjoint(self.crates[it].deps)), key=lambda it: -self.longest[it])
-        if any(it.process and it.is_alone for it in self.lanes):
-            return
-        for name in ready:
-            is_first = len(idle) == len(self.lanes)
-            if not idle or (name in self.alone or free_memory() < ROOM) and not is_first:
-                continue
-            jobs = 1 if name in self.alone else max(1, min(4, len(idle) // len(ready)))
-            idle.pop().start(self.crates[name], jobs, name in self.alone)
-            self.todo.remove(name)
-            if name in self.alone:
+        for at, name in enumerate(ready):
+            idle, is_alone = self.width - len(self.running), name in self.alone
+            if any(it.is_alone for it in self.running) or not idle:
                 return
+            if self.running and (is_alone or free_memory() < ROOM):
+                continue
+            # (processors that no other crate waits for)
+            jobs = 1 if is_alone else max(1, min(4, idle // (len(ready) - at)))
+            self.start(self.crates[name], jobs, is_alone)
 
-    def finish(self, lane):
-        crate, status, was_alone = lane.crate, lane.process.returncode, lane.is_alone
-        lane.end()
+    def start(self, crate, jobs, is_alone):
+        self.todo.remove(crate.name)
+        shutil.rmtree(crate.home, ignore_errors=True)
+        os.makedirs(crate.home)
+        log, words = os.path.join(self.logs, f"{crate.name}.log"), self.toolchain.build(crate, jobs, crate.rlib)
+        self.running.append(Proof(crate, crate.sum_up(self.toolchain.version), words, log, self.guard, is_alone))
+
+    def finish(self, proof):
+        crate, status = proof.crate, proof.process.returncode
         if status == 0:
+            crate.keep(proof.total)
             self.tell(crate.name)
-        elif was_alone or not was_killed(lane.log, status):
-            failed(self.program, lane.log)
+        elif proof.is_alone or status != -signal.SIGKILL:
+            failed(self.program, proof.log)
         else:
             # (most likely for memory: once more, with nothing beside it)
             self.alone.add(crate.name)
@@ -263,28 +306,6 @@ def processors():
             quota, period = map(int, file.read().split())
         found = min(found, max(1, quota // period))
     return found
-
-
-def was_killed(log, status):
-    with open(log, encoding="utf-8", errors="replace") as file:
-        return status in (-signal.SIGKILL, 256 - signal.SIGKILL) or "was killed" in file.read()
-
-
-def lanes_home():
-    """Where the lanes lie: within .git/, which holds no crates for anybody, or else in the folder for what is temporary."""
-    git = os.path.join(TOP, ".git")
-    mark = hashlib.sha256(TOP.encode()).hexdigest()[:12]
-    return os.path.join(git, "lanes") if os.path.isdir(git) else os.path.join(tempfile.gettempdir(), f"tardis-lanes-{mark}")
-
-
-def put_back(home, crates):
-    """Moves back what a build that was killed left in its lanes."""
-    for lane in os.listdir(home) if os.path.isdir(home) else []:
-        for name, crate in crates.items():
-            out, to = os.path.join(home, lane, "crates", name, "out"), os.path.join(crate.folder, "out")
-            if os.path.isdir(os.path.join(out, "incremental")) and not os.path.exists(to):
-                shutil.move(out, to)
-    shutil.rmtree(home, ignore_errors=True)
 
 
 def failed(program, log):
@@ -311,26 +332,50 @@ def held(crates):
         yield
 
 
+def make(program, crates, toolchain, guard, folder):
+    """Proves what isn't proved yet, and builds the program; logs and what isn't linked yet lie in the folder."""
+    crate, made, linked = crates[program], os.path.join(folder, f"{program}.o"), os.path.join(folder, program)
+    work = Build(program, crates, toolchain, guard, folder)
+    if work.todo:
+        work.run()
+    say(f"[{len(crates) - 1} of {len(crates)}] ({program}: its last crate is proved, and the program built)")
+    log = os.path.join(folder, f"{program}.log")
+    for words in (toolchain.build(crate, work.width, made), toolchain.link(made, linked)):
+        with open(log, "ab") as file:
+            if guard.start(words, crate.folder, file).wait():
+                failed(program, log)
+    # (in one step, so that nobody runs half a program)
+    target = os.path.join(crate.folder, "out", program)
+    os.makedirs(os.path.dirname(target), exist_ok=True)
+    shutil.copy2(linked, f"{target}.new")
+    os.replace(f"{target}.new", target)
+
+
+def make_by_rt(program, crate, folder):
+    """Has `rt` prove and build the program, one crate after another."""
+    say(f"{program}: proving its crates first, one after another, which takes an hour or two")
+    log = os.path.join(folder, f"{program}.log")
+    with open(log, "wb") as file:
+        ran = subprocess.run(["rt", "run", "--", "--version"], cwd=crate.folder, stdin=subprocess.DEVNULL, stdout=file, stderr=file)
+    if ran.returncode:
+        failed(program, log)
+
+
 def build(program):
     """Proves and builds the program, unless it is there and newer than all that it is made from."""
-    began = time.time()
-    crates = crates_below(program)
-    if crates[program].is_made() and crates[program].made() > os.path.getmtime(os.path.join(TOP, "crates.txt")):
+    began, crates = time.time(), crates_below(program)
+    crate = crates[program]
+    if crate.is_current():
         return
-    if not shutil.which("rt"):
-        stop(f"{program}: the command rt of the toolchain isn't on the PATH; README.md says which one is needed")
-    with held(crates):
-        if any(name != program and not crate.is_made() for name, crate in crates.items()):
-            Build(program, crates).run()
-    say(f"[{len(crates) - 1} of {len(crates)}] ({program}: its last crate is proved, and the program built)")
-    with tempfile.TemporaryDirectory() as folder:
-        log = os.path.join(folder, f"{program}.log")
-        with open(log, "wb") as said:
-            ran = subprocess.run(["rt", "run", "--", "--version"], cwd=crates[program].folder, stdin=subprocess.DEVNULL, stdout=said, stderr=said)
-        if ran.returncode:
-            failed(program, log)
+    toolchain = Toolchain(program)
+    with tempfile.TemporaryDirectory(prefix=f"{program}-") as folder:
+        if not toolchain.keeps_statements():
+            make_by_rt(program, crate, folder)
+        else:
+            with held(crates), contextlib.closing(Guard()) as guard:
+                make(program, crates, toolchain, guard, folder)
     # (so that text that changed meanwhile is newer)
-    os.utime(os.path.join(crates[program].folder, "out", program), (began, began))
+    os.utime(os.path.join(crate.folder, "out", program), (began, began))
 
 
 def from_here(words):
@@ -347,8 +392,7 @@ def from_here(words):
 
 def run_unproved(program, words):
     """Runs the program's sources as they are, and ends with its status."""
-    if not shutil.which("rt"):
-        stop(f"{program}: the command rt of the toolchain isn't on the PATH; README.md says which one is needed")
+    stop_without_rt(program)
     say(f"{program}: NOTHING OF THIS RUN IS PROVED. It begins in a minute or two, and what it writes comes when it has ended.")
     with tempfile.TemporaryFile() as given:
         if program != "tardisd":
