@@ -3,11 +3,12 @@
 
 usage: bench/gate.py [WORD ..]
 
-`rt ci` is run at the top of the repository with these words (`--anew` has it prove everything, whatever earlier runs kept),
-and what it prints goes where this script's output goes. Beside it all processes are looked at five times a second. A process
-of the prover counts for the crate that its words name: as its proof; as its tests; or as its edits, where it checks a copy
-with an edit in it, or what the edits begin with. Compilers and linkers are left to the last line, which has the whole run by
-the system's own count. A process is seen last up to a fifth of a second before it ends, so the table comes to a little less.
+`rt ci` is run at the top of the repository with these words, and what it prints goes where this script's output goes. (Where a
+toolchain's `rt ci` takes what earlier runs kept, its word `--anew` has it prove everything; where it takes no words, it does
+that each time.) Beside it all processes are looked at five times a second. A process of the prover counts for the crate that
+its words name: as its proof; as its tests; or as its edits, where it checks a copy with an edit in it, or what the edits begin
+with. Compilers and linkers are left to the last line, which has the whole run by the system's own count. A process is seen
+last up to a fifth of a second before it ends, so the table comes to a little less.
 """
 
 import collections
