@@ -84,6 +84,10 @@ module _ (a : Inside) (held : IsHeld a) (table : Table) (view : seen a ≡ table
         (subst (λ qs. TellsLong (table_of a.nodes.items) parents (find (is_long (table_of a.nodes.items) a.limits.max_path parents) qs) fault) kept
         (subst (λ ms. TellsLong (table_of ms) parents (find (is_long (table_of ms) a.limits.max_path parents) ss) fault) nodes told)))
 
+  pub gains-now : (gains : List Gain) → gains ≡ all_gains table parents (slots_of table.entries) → gains ≡ all_gains (seen a) parents (kept_of a)
+  gains-now gains is =
+      is ∙ sym (ap (λ t. all_gains t parents (slots_of t.entries)) view) ∙ ap (all_gains (seen a) parents) (kept-slots a held)
+
   pub entry-seen : (ns : List Node) (x : StateId) (slot : Slot) (e : Entry) → ns ≡ a.nodes.items → IsNewEntry (table_after a.known ns) parents x slot e →
       IsNewEntry table parents x slot e
   entry-seen ns x slot e nodes new =
@@ -121,6 +125,13 @@ module _ (a : Inside) (held : IsHeld a) (table : Table) (view : seen a ≡ table
       (subst (λ qs. Rise (arrival_at (table_of ms)) qs) (sym (leaves ∙ held.childless))
       (subst (λ es. Rise (arrival_at (record (table_of ms) { entries = es })) (childless_slots (seen a).entries)) (sym same)
       (leaves-rise (table_of a.nodes.items) (seen a).entries (found-nodes a held) held.in_order)))
+
+-- one more state may be kept
+pub room-left : (a : Inside) (held : IsHeld a) (old : Table) → seen a ≡ old → length old.entries < old.limits.max_kept → a.kept < a.limits.max_kept
+room-left a held old view lt =
+    let count : a.kept ≡ length old.entries = sym (entries-long a held) ∙ ap (λ (t : Table). length t.entries) view in
+    let most : a.limits.max_kept ≡ old.limits.max_kept = ap (λ (t : Table). t.limits.max_kept) view in
+    omega arith
 
 -- the answer to a fault of a new state's path or that of a kept one
 pub fault-answered : (a : Inside) (held : IsHeld a) (old : Table) (parents : List Slot) (n : Node) (x : StateId) → seen a ≡ old →

@@ -18,7 +18,6 @@ use Rattle.plain_dag.specs.Paths.{fork_path}
 use Rattle.plain_dag.specs.Growth.{growth_refusal}
 use Rattle.plain_dag.proofs.Ids.{any-false-at, none-found}
 use Rattle.plain_dag.proofs.Histories.{next-is-dag, known-stays}
-use Rattle.plain_dag.proofs.Order.{above-reflexive}
 use Rattle.state_dag.specs.Table.{Table}
 use Rattle.state_dag.specs.Stands.{Stands}
 use Rattle.state_dag.specs.Answers.{MayBeAdded}

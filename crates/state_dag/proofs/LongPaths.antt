@@ -97,8 +97,9 @@ module _ (table : Table) (parents : List Slot) (x : StateId) (pairs : ℕ) (foun
       ∙ cond-true (ltb table.limits.max_path pairs) (refusal x pairs) None (lt-ltb table.limits.max_path pairs told.2) ∙ ap₂ refusal (sym told.0) (sym told.1)
   own-told NoMemory none told = tt
 
-  -- or nothing is
-  pub nothing-told : find (is_long table table.limits.max_path parents) slots ≡ None → pairs ≤ table.limits.max_path → path_refusal table x parents pairs ≡ None
-  nothing-told none le =
-      ap (first_refusal x table.limits.max_path pairs) (short-told none) ∙ cond-false (ltb table.limits.max_path pairs) (Some (IsPathFull x pairs)) None
-      (le-ltb table.limits.max_path pairs le)
+-- nothing is refused where no path is too long
+pub nothing-told : (table : Table) (parents : List Slot) (x : StateId) (pairs : ℕ) → too_long table parents ≡ None → pairs ≤ table.limits.max_path →
+    path_refusal table x parents pairs ≡ None
+nothing-told table parents x pairs none le =
+    ap (first_refusal x table.limits.max_path pairs) none ∙ cond-false (ltb table.limits.max_path pairs) (Some (IsPathFull x pairs)) None
+    (le-ltb table.limits.max_path pairs le)

@@ -1,5 +1,5 @@
 -- Which slots name which states, and what a table says of those of a new state's parents.
-use Rattle.std.proofs.Common.{◌≡◌, ℕ, Bool, false, not, ◌||◌, ◌&&◌, eqb, List, [], ◌∷◌, length, map, find, slice_get, Some, IsTrue, IsFalse, inl, inr, refl}
+use Rattle.std.proofs.Common.{◌≡◌, ℕ, Bool, false, not, ◌||◌, ◌&&◌, eqb, List, [], ◌∷◌, length, map, find, slice_get, Some, IsTrue, inl, inr, refl}
 use Rattle.std.proofs.Common.{sym, ap, ap₂, subst, ◌∙◌, eqb-true, eq-eqb}
 use Rattle.std.specs.List.{list_any}
 use Rattle.std.specs.Option.{option_map_or, option_and_then}

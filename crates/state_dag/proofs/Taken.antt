@@ -11,7 +11,6 @@ use Rattle.tardis_base.specs.declared.records.Record.{Record}
 use Rattle.tardis_base.specs.Ids.{same_id, is_among}
 use Rattle.fork_path.specs.Pairs.{is_same_pair, has_pair}
 use Rattle.plain_dag.specs.States.{is_known, children}
-use Rattle.plain_dag.specs.Above.{is_above}
 use Rattle.plain_dag.specs.Paths.{is_fork, leads_to}
 use Rattle.plain_dag.proofs.Ids.{same_test, or-false, same_id-true, any-agrees}
 use Rattle.plain_dag.proofs.Histories.{next-fits, parent-is-known}

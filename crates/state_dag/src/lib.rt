@@ -1,8 +1,8 @@
 //! The table of states: their order by arrival numbers and fork paths.
 #![tactic(auto)]
 
-ghost use Rattle.std.specs.Prelude.{◌≡◌, ℕ, ◌+◌, ◌-◌, ◌≤◌, ◌<◌, false, unwrap_or, slice_get, slice_index_or, Some, None, List, [], ◌∷◌, length, map};
-ghost use Rattle.std.specs.Prelude.{IsTrue, IsSome, IfOk, IfSome, OnErr};
+ghost use Rattle.std.specs.Prelude.{◌≡◌, ℕ, ◌+◌, ◌-◌, ◌≤◌, ◌<◌, false, unwrap_or, slice_get, slice_index_or, Some, None, Err, ⊤, List, [], ◌∷◌, length, map};
+ghost use Rattle.std.specs.Prelude.{IsTrue, IsSome, IfOk, IfSome, OnErr, MatchResult};
 ghost use Rattle.std.specs.List.{list_all};
 ghost use Rattle.std.specs.Option.{option_and_then, option_map};
 ghost use Rattle.tardis_base.specs.declared.ids.StateId.{StateId};
@@ -19,6 +19,8 @@ ghost use Rattle.plain_dag.specs.Paths.{fork_path};
 ghost use Rattle.state_dag.specs.Table.{Entry, entry_at, id_at, is_slot, is_kept_at, arrival_at, is_slot_above, only_parent_at};
 ghost use Rattle.state_dag.specs.Views.{entry_of};
 ghost use Rattle.state_dag.specs.Stands.{Stands};
+ghost use Rattle.state_dag.specs.Grown.{too_long, IsNewEntry};
+ghost use Rattle.state_dag.specs.Nodes.{all_gains};
 ghost use Rattle.state_dag.specs.Shared.{shared_stand_in};
 ghost use Rattle.state_dag.specs.Detached.{shared_slot, without_slot};
 ghost use Rattle.state_dag.specs.Answers.{MayBeAdded, AddedTo, IsNewSlot, KeepsSlots, GivesChild, LeavesChildren, next_of, slot_after};
@@ -44,7 +46,7 @@ use collection::{first_holder, hand_over};
 use growth::{check_path, new_node};
 use id_slots::IdSlots;
 pub use images::EntryParts;
-use leads::gains;
+use leads::{Gain, gains};
 use named_paths::named_path;
 use nodes::{Node, first_from, is_node_above, node_at, only_parent, root_node};
 use rooms::make_state_room;
@@ -143,14 +145,7 @@ impl StateDag {
         ensures limits { self.new.limits ≡ self.old.limits }
         ensures same { OnErr result (self.new ≡ self.old) }
     {
-        if self.kept == self.limits.max_kept {
-            return Err(AddFault::Full { kept: self.kept });
-        }
-        let alloc = *self.nodes.allocator();
-        let node = new_node(alloc, &self.nodes, parents, id, self.known)?;
-        let kept = self.order.kept();
-        let gains = gains(alloc, &self.nodes, kept, parents, &self.limits)?;
-        check_path(&node, &self.limits)?;
+        let (node, gains) = self.growth(id, parents)?;
         make_state_room(
             &mut self.nodes,
             &mut self.order,
@@ -172,6 +167,28 @@ impl StateDag {
         set_count(&mut self.counts, id.site, id.sequence);
         self.known += 1;
         Ok(slot)
+    }
+
+    /// The node of the new state, and the first branches that lead to kept states: what the table gets, if it may.
+    fn growth(&self, id: StateId, parents: &[Slot]) -> Result<(Node, Vec<Gain>), AddFault>
+        requires { IsTrue (list_all (is_slot self.now) parents.now) }
+        ensures room { IfOk result (λ growth. length self.now.entries < self.now.limits.max_kept) }
+        ensures node { IfOk result (λ growth. (place : ℕ) → IsNewEntry self.now parents.now id (record { 0 = place }) (entry_of place growth.0)) }
+        ensures gains { IfOk result (λ growth. growth.1.items ≡ all_gains self.now parents.now (map (λ e. e.slot) self.now.entries)) }
+        ensures short { IfOk result (λ growth. too_long self.now parents.now ≡ None) }
+        ensures own { IfOk result (λ growth. length growth.0.path.pairs ≤ self.now.limits.max_path) }
+        ensures refused { (rs : List Record) (ks : List StateId) (r : Record) → Stands self.now rs ks → r.id ≡ id
+            → MayBeAdded self.now rs ks r parents.now → MatchResult result (λ growth. ⊤) (λ fault. AddedTo self.now self.now rs ks r (Err fault)) }
+    {
+        if self.kept == self.limits.max_kept {
+            return Err(AddFault::Full { kept: self.kept });
+        }
+        let alloc = *self.nodes.allocator();
+        let node = new_node(alloc, &self.nodes, parents, id, self.known)?;
+        let kept = self.order.kept();
+        let gains = gains(alloc, &self.nodes, kept, parents, &self.limits)?;
+        check_path(&node, &self.limits)?;
+        Ok((node, gains))
     }
 
     /// Lets the state at the slot join the collected ones, and answers the slot of its stand-in, which is the one that all

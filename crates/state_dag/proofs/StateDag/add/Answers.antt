@@ -9,116 +9,51 @@ use Rattle.tardis_base.specs.declared.ids.Slot.{Slot}
 use Rattle.tardis_base.specs.declared.records.Record.{Record}
 use Rattle.tardis_base.specs.declared.faults.AddFault.{AddFault}
 use Rattle.state_dag.specs.declared.StateDag.TheInside.{Inside}
-use Rattle.state_dag.specs.declared.nodes.Node.{Node}
 use Rattle.fork_path.specs.Pairs.{are_ascending_pairs}
 use Rattle.state_dag.specs.Table.{Entry, Table, entry_at, arrival_at, is_slot, is_kept_at}
 use Rattle.state_dag.specs.Views.{entry_of, entries_in}
 use Rattle.state_dag.specs.Stands.{Stands}
 use Rattle.state_dag.specs.Answers.{MayBeAdded, AddedTo, IsNewSlot, KeepsSlots}
-use Rattle.state_dag.specs.Grown.{is_slot_among, refusal_of, IsNewEntry, IsGrown}
+use Rattle.state_dag.specs.Grown.{is_slot_among, refusal_of, too_long, IsNewEntry, IsGrown}
 use Rattle.state_dag.specs.Nodes.{table_of, path_refusal, slot_after_all, with_slot}
 use Rattle.state_dag.specs.Held.{kept_of, seen}
 use Rattle.state_dag.proofs.NewIds.{uncounted-none}
 use Rattle.state_dag.proofs.Following.{Follow}
 use Rattle.state_dag.proofs.Became.{Became}
-use Rattle.state_dag.proofs.Memory.{entries-long, found-all, kept-placed, kept-now}
-use Rattle.state_dag.proofs.Calls.{slots-ascend}
-use Rattle.state_dag.proofs.LongPaths.{short-told, long-told, own-told, nothing-told}
-use Rattle.state_dag.proofs.Added.{full, added, parents-differ}
+use Rattle.state_dag.proofs.Memory.{entries-long}
+use Rattle.state_dag.proofs.LongPaths.{nothing-told}
+use Rattle.state_dag.proofs.Added.{added, parents-differ}
 use Rattle.state_dag.proofs.SameEntries.{same-count, sum-within}
 use Rattle.state_dag.proofs.NextSlot.{IsNext, next-slot}
 use Rattle.state_dag.proofs.LastSlots.{slots-kept, slot-was, last-named, kept-stays, last-arrives, arrives-last, gives-child}
 use Rattle.state_dag.proofs.GrownTables.{distinct-from_differ, refused-alike, table-grown}
 use Rattle.state_dag.proofs.HeldNext.{early-entries, among-passes, view-same, held-stays, entries-after, slot-fresh, held-next}
-use Rattle.state_dag.proofs.AddSteps.{parents-placed, short-kept, gains-seen, none-seen, long-seen, entry-seen, gains-at_places, few-gains, all-grown}
-use Rattle.state_dag.proofs.AddSteps.{leaves-in_order, fault-answered}
+use Rattle.state_dag.proofs.AddSteps.{parents-placed, gains-now, room-left, gains-at_places, few-gains, all-grown}
+use Rattle.state_dag.proofs.AddSteps.{leaves-in_order}
 use Rattle.state_dag.proofs.Known.{limits-parts}
 use Rattle.state_dag.proofs.StateDag.add.Goals as goal
 
-pub returns-then-self-clause-added : goal.returns-then-self-clause-added
-returns-then-self-clause-added c = λ rs ks r stands is may.
-    let a = c.self.inside in
+pub returns-in_err-node-clause-added : goal.returns-in_err-node-clause-added
+returns-in_err-node-clause-added c = λ rs ks r stands is may.
     let old = c.args.self.now in
-    let is_full = c.if-self.true in
-    let equal : a.kept ≡ a.limits.max_kept = omega arith in
-    full old old rs ks r c.args.parents.now stands a.kept (sym (entries-long a c.self.invariant) ∙ ap (λ (t : Table). length t.entries) c.self.view_is)
-    (equal ∙ ap (λ (t : Table). t.limits.max_kept) c.self.view_is) refl
-
-pub new_node-requires : goal.new_node-requires
-new_node-requires c =
-    subst (λ (ns : List Node). list_all (λ (s : Slot). ltb s.0 (length ns)) c.args.parents.now ≡ true) (sym c.deref.ensures.value)
-    (parents-placed c.self.inside c.self.invariant c.args.self.now c.self.view_is c.args.parents.now c.requires.slots)
-
-pub gains-requires-clause-places : goal.gains-requires-clause-places
-gains-requires-clause-places c =
-    subst (λ (ns : List Node). list_all (λ (s : Slot). ltb s.0 (length ns)) c.kept-kept.result.now ≡ true) (sym c.deref-2.ensures.value)
-    (subst (λ (ss : List Slot). list_all (λ (s : Slot). ltb s.0 (length c.self.inside.nodes.items)) ss ≡ true)
-    (sym (c.kept-kept.ensures ∙ kept-now c.self.inside c.self.invariant)) (kept-placed c.self.inside c.self.invariant))
-
-pub gains-requires-clause-in_order : goal.gains-requires-clause-in_order
-gains-requires-clause-in_order c = slots-ascend c.self.inside c.self.invariant c.deref-2.result.now c.kept-kept.result.now
-    c.deref-2.ensures.value (c.kept-kept.ensures ∙ kept-now c.self.inside c.self.invariant)
-
-pub gains-requires-clause-short : goal.gains-requires-clause-short
-gains-requires-clause-short c = short-kept c.self.inside c.self.invariant c.args.self.now c.self.view_is c.args.parents.now c.requires.slots
-    c.deref-2.result.now c.kept-kept.result.now c.deref-2.ensures.value (c.kept-kept.ensures ∙ kept-now c.self.inside c.self.invariant)
-
-pub returns-in_err-gains-clause-added : goal.returns-in_err-gains-clause-added
-returns-in_err-gains-clause-added c = λ rs ks r stands is may.
-    let a = c.self.inside in
-    let old = c.args.self.now in
-    let parents = c.args.parents.now in
-    let n = c.in_ok-node.node in
-    let fault = c.in_err-gains.field-0.0 in
-    let p = err_from_is_err_and c.from_residual-in_err-gains.result c.from_residual-in_err-gains.ensures.1 in
+    let p = err_from_is_err_and c.from_residual.result c.from_residual.ensures.1 in
     let wrong : AddFault → Result Slot AddFault = λ f. Err f in
-    let has_room = c.if-self.false in
-    subst (λ (z : Result Slot AddFault). AddedTo old old rs ks r z) (sym (p.1 ∙ ap wrong p.2))
-    (fault-answered a c.self.invariant old parents n c.args.id c.self.view_is
-    (entry-seen c.self.inside c.self.invariant c.args.self.now c.self.view_is c.args.parents.now c.requires.slots c.deref.result.now c.args.id
-    (record { 0 = 0 }) (entry_of 0 c.in_ok-node.node) c.deref.ensures.value (c.in_ok-node.ensures 0)) (λ e. omega arith) fault
-    (long-told (seen a) parents n.id (length n.path.pairs) (found-all a c.self.invariant) fault
-    (long-seen c.self.inside c.self.invariant c.args.self.now c.self.view_is c.args.parents.now c.requires.slots c.deref-2.result.now
-    c.kept-kept.result.now c.deref-2.ensures.value (c.kept-kept.ensures ∙ kept-now c.self.inside c.self.invariant) fault
-    c.in_err-gains.ensures.long)) rs ks r stands is may)
-
-pub returns-in_err-check_path-clause-added : goal.returns-in_err-check_path-clause-added
-returns-in_err-check_path-clause-added c = λ rs ks r stands is may.
-    let a = c.self.inside in
-    let old = c.args.self.now in
-    let parents = c.args.parents.now in
-    let n = c.in_ok-node.node in
-    let fault = c.in_err-check_path.field-0.0 in
-    let p = err_from_is_err_and c.from_residual-in_err-check_path.result c.from_residual-in_err-check_path.ensures.1 in
-    let wrong : AddFault → Result Slot AddFault = λ f. Err f in
-    let has_room = c.if-self.false in
-    subst (λ (z : Result Slot AddFault). AddedTo old old rs ks r z) (sym (p.1 ∙ ap wrong p.2))
-    (fault-answered a c.self.invariant old parents n c.args.id c.self.view_is
-    (entry-seen c.self.inside c.self.invariant c.args.self.now c.self.view_is c.args.parents.now c.requires.slots c.deref.result.now c.args.id
-    (record { 0 = 0 }) (entry_of 0 c.in_ok-node.node) c.deref.ensures.value (c.in_ok-node.ensures 0)) (λ e. omega arith) fault
-    (own-told (seen a) parents n.id (length n.path.pairs) (found-all a c.self.invariant) fault
-    (none-seen c.self.inside c.self.invariant c.args.self.now c.self.view_is c.args.parents.now c.requires.slots c.deref-2.result.now
-    c.kept-kept.result.now c.deref-2.ensures.value (c.kept-kept.ensures ∙ kept-now c.self.inside c.self.invariant)
-    c.in_ok-gains.ensures.long) c.in_err-check_path.ensures) rs ks r stands is may)
+    subst (λ (z : Result Slot AddFault). AddedTo old old rs ks r z) (sym (p.1 ∙ ap wrong p.2)) (c.in_err-node.ensures.refused rs ks r stands is may)
 
 pub make_state_room-requires-clause-places : goal.make_state_room-requires-clause-places
 make_state_room-requires-clause-places c = parents-placed c.self.inside c.self.invariant c.args.self.now c.self.view_is c.args.parents.now c.requires.slots
 
 pub make_state_room-requires-clause-gains : goal.make_state_room-requires-clause-gains
 make_state_room-requires-clause-gains c = gains-at_places c.self.inside c.self.invariant c.args.self.now c.self.view_is c.args.parents.now c.requires.slots
-    c.deref-3.result.now (c.deref-3.ensures.value ∙ gains-seen c.self.inside c.self.invariant c.args.self.now c.self.view_is c.args.parents.now
-    c.requires.slots c.deref-2.result.now c.kept-kept.result.now c.deref-2.ensures.value
-    (c.kept-kept.ensures ∙ kept-now c.self.inside c.self.invariant) c.in_ok-gains.gains.items c.in_ok-gains.ensures.gains) c.self.inside.nodes.items refl
+    c.deref.result.now (c.deref.ensures.value ∙ gains-now c.self.inside c.self.invariant c.args.self.now c.self.view_is c.args.parents.now c.requires.slots c.in_ok-node.gains.items c.in_ok-node.ensures.gains) c.self.inside.nodes.items refl
 
 pub make_state_room-requires-clause-few : goal.make_state_room-requires-clause-few
 make_state_room-requires-clause-few c = few-gains c.self.inside c.self.invariant c.args.self.now c.self.view_is c.args.parents.now c.requires.slots
-    c.deref-3.result.now (c.deref-3.ensures.value ∙ gains-seen c.self.inside c.self.invariant c.args.self.now c.self.view_is c.args.parents.now
-    c.requires.slots c.deref-2.result.now c.kept-kept.result.now c.deref-2.ensures.value
-    (c.kept-kept.ensures ∙ kept-now c.self.inside c.self.invariant) c.in_ok-gains.gains.items c.in_ok-gains.ensures.gains)
+    c.deref.result.now (c.deref.ensures.value ∙ gains-now c.self.inside c.self.invariant c.args.self.now c.self.view_is c.args.parents.now c.requires.slots c.in_ok-node.gains.items c.in_ok-node.ensures.gains)
 
 pub drop_slots-requires : goal.drop_slots-requires
 drop_slots-requires c = leaves-in_order c.self.inside c.self.invariant c.args.self.now c.self.view_is c.args.parents.now c.requires.slots
-    c.make_state_room.new.nodes.items c.deref-5.result.now c.make_state_room.new.leaves.items c.deref-5.ensures.value c.make_state_room.ensures.same
+    c.make_state_room.new.nodes.items c.deref-3.result.now c.make_state_room.new.leaves.items c.deref-3.ensures.value c.make_state_room.ensures.same
     c.make_state_room.ensures.leaves
 
 pub grow-requires-clause-places : goal.grow-requires-clause-places
@@ -129,9 +64,7 @@ grow-requires-clause-places c =
 
 pub grow-requires-clause-gains : goal.grow-requires-clause-gains
 grow-requires-clause-gains c = gains-at_places c.self.inside c.self.invariant c.args.self.now c.self.view_is c.args.parents.now c.requires.slots
-    c.deref-6.result.now (c.deref-6.ensures.value ∙ gains-seen c.self.inside c.self.invariant c.args.self.now c.self.view_is c.args.parents.now
-    c.requires.slots c.deref-2.result.now c.kept-kept.result.now c.deref-2.ensures.value
-    (c.kept-kept.ensures ∙ kept-now c.self.inside c.self.invariant) c.in_ok-gains.gains.items c.in_ok-gains.ensures.gains) c.make_state_room.new.nodes.items
+    c.deref-4.result.now (c.deref-4.ensures.value ∙ gains-now c.self.inside c.self.invariant c.args.self.now c.self.view_is c.args.parents.now c.requires.slots c.in_ok-node.gains.items c.in_ok-node.ensures.gains) c.make_state_room.new.nodes.items
     (same-count c.make_state_room.new.nodes.items c.self.inside.nodes.items c.make_state_room.ensures.same)
 
 pub invariant_of-self : goal.invariant_of-self
@@ -183,7 +116,7 @@ pub overflow_add-self : goal.overflow_add-self
 overflow_add-self c =
     let within = c.self.invariant.within in
     let most = (limits-parts c.self.inside.limits c.self.invariant.valid).kept in
-    let has_room = c.if-self.false in
+    let has_room = room-left c.self.inside c.self.invariant c.args.self.now c.self.view_is c.in_ok-node.ensures.room in
     omega arith
 
 pub overflow_add-self-2 : goal.overflow_add-self-2
@@ -367,7 +300,7 @@ is-next : (c : goal.After-drop-gains-2) → IsNext c.self.inside c.next_slot-slo
 is-next c =
     let a = c.self.inside in
     let within = c.self.invariant.within in
-    let has_room = c.if-self.false in
+    let has_room = room-left c.self.inside c.self.invariant c.args.self.now c.self.view_is c.in_ok-node.ensures.room in
     let one = (same-count c.make_state_room.new.nodes.items c.self.inside.nodes.items c.make_state_room.ensures.same) in
     let two = c.grow.ensures.count in
     next-slot a c.self.invariant c.next_slot-slot.result (c.next_slot-slot.ensures
@@ -378,10 +311,8 @@ is-next c =
 follows : (c : goal.After-drop-gains-2) → Follow (Became (seen c.self.inside) c.args.parents.now c.args.id c.next_slot-slot.result)
     (seen c.self.inside).entries (entries_in c.grow.new.nodes.items (kept_of c.self.inside))
 follows c =
-    all-grown c.self.inside c.self.invariant c.args.self.now c.self.view_is c.args.parents.now c.requires.slots c.deref-6.result.now
-    (c.deref-6.ensures.value ∙ gains-seen c.self.inside c.self.invariant c.args.self.now c.self.view_is c.args.parents.now c.requires.slots
-    c.deref-2.result.now c.kept-kept.result.now c.deref-2.ensures.value
-    (c.kept-kept.ensures ∙ kept-now c.self.inside c.self.invariant) c.in_ok-gains.gains.items c.in_ok-gains.ensures.gains) c.make_state_room.new.nodes.items
+    all-grown c.self.inside c.self.invariant c.args.self.now c.self.view_is c.args.parents.now c.requires.slots c.deref-4.result.now
+    (c.deref-4.ensures.value ∙ gains-now c.self.inside c.self.invariant c.args.self.now c.self.view_is c.args.parents.now c.requires.slots c.in_ok-node.gains.items c.in_ok-node.ensures.gains) c.make_state_room.new.nodes.items
     c.grow.new.nodes.items c.in_ok-node.node c.args.id c.next_slot-slot.result c.make_state_room.ensures.same c.grow.ensures.count c.grow.ensures.each
 
 same-nodes : (c : goal.After-drop-gains-2) → length c.grow.new.nodes.items ≡ length c.self.inside.nodes.items
@@ -429,15 +360,13 @@ is-fresh c =
 
 new-entry : (c : goal.After-drop-gains-2) → IsNewEntry c.args.self.now c.args.parents.now c.args.id c.next_slot-slot.result
     (entry_of c.next_slot-slot.result.0 c.in_ok-node.node)
-new-entry c = (entry-seen c.self.inside c.self.invariant c.args.self.now c.self.view_is c.args.parents.now c.requires.slots c.deref.result.now c.args.id
-    (record { 0 = c.next_slot-slot.result.0 }) (entry_of c.next_slot-slot.result.0 c.in_ok-node.node) c.deref.ensures.value
-    (c.in_ok-node.ensures c.next_slot-slot.result.0))
+new-entry c = c.in_ok-node.ensures.node c.next_slot-slot.result.0
 
 pub put_node-requires-clause-slot : goal.put_node-requires-clause-slot
 put_node-requires-clause-slot c =
     let a = c.self.inside in
     let within = c.self.invariant.within in
-    let has_room = c.if-self.false in
+    let has_room = room-left c.self.inside c.self.invariant c.args.self.now c.self.view_is c.in_ok-node.ensures.room in
     let one = (same-count c.make_state_room.new.nodes.items c.self.inside.nodes.items c.make_state_room.ensures.same) in
     let two = c.grow.ensures.count in
     let next = next-slot a c.self.invariant c.next_slot-slot.result
@@ -450,7 +379,7 @@ pub put_time-requires-clause-slot : goal.put_time-requires-clause-slot
 put_time-requires-clause-slot c =
     let a = c.self.inside in
     let within = c.self.invariant.within in
-    let has_room = c.if-self.false in
+    let has_room = room-left c.self.inside c.self.invariant c.args.self.now c.self.view_is c.in_ok-node.ensures.room in
     let next = next-slot a c.self.invariant c.next_slot-slot.result
     (c.next_slot-slot.ensures ∙ ap (λ (ss : List Slot). slot_after_all ss a.kept) c.make_state_room.ensures.order)
     a.nodes.items c.in_ok-node.node (omega arith) (omega arith) in
@@ -463,8 +392,8 @@ put_time-requires-clause-slot c =
 early-nodes : (c : goal.After-drop-gains-2) → (k : ℕ) → is_slot_among (record { 0 = k }) c.args.parents.now ≡ true →
     c.first_arrival-since.result ≤ arrival_at (table_of c.self.inside.nodes.items) (record { 0 = k })
 early-nodes c k there =
-    let same : table_of c.deref-4.result.now ≡ table_of c.self.inside.nodes.items =
-    ap table_of c.deref-4.ensures.value ∙ ap (λ es. record (table_of c.self.inside.nodes.items) { entries = es }) c.make_state_room.ensures.same in
+    let same : table_of c.deref-2.result.now ≡ table_of c.self.inside.nodes.items =
+    ap table_of c.deref-2.ensures.value ∙ ap (λ es. record (table_of c.self.inside.nodes.items) { entries = es }) c.make_state_room.ensures.same in
     among-passes (arrival_at (table_of c.self.inside.nodes.items)) c.first_arrival-since.result c.args.parents.now
     (subst (λ (t : Table). (i : ℕ) (d : Slot) → i < length c.args.parents.now → c.first_arrival-since.result ≤ arrival_at t (get_or c.args.parents.now i d))
     same c.first_arrival-since.ensures) k there
@@ -481,17 +410,16 @@ invariant_of-self-2 c =
     let within = c.self.invariant.within in
     let sites = c.self.invariant.sites in
     let most = ap (λ (t : Table). t.limits.sites) c.self.view_is in
-    let has_room = c.if-self.false in
+    let has_room = room-left c.self.inside c.self.invariant c.args.self.now c.self.view_is c.in_ok-node.ensures.room in
     held-next a (inside-next c) c.self.invariant c.grow.new.nodes.items n id slot parents (is-next c) (same-nodes c) c.put_node.ensures (listed c) refl
     (follows c) i id.sequence refl refl c.set_count.ensures.set
     c.in_ok-put.ensures.put
     (c.push_reserved.ensures.items ∙ ap (λ (ss : List Slot). ss ++ slot ∷ [])
     (c.drop_slots.ensures.items ∙ ap (filter (λ (s : Slot). not (is_slot_among s parents))) c.make_state_room.ensures.leaves))
     (omega arith) (used-next c) entry.id_is (entry.arrival_is ∙ sym (ap (λ (t : Table). t.known) c.self.view_is)) entry.no_children entry.no_stand_ins entry.path.ascending
-    (short-told (seen a) parents n.id (length n.path.pairs) (found-all a c.self.invariant)
-    (none-seen c.self.inside c.self.invariant c.args.self.now c.self.view_is c.args.parents.now c.requires.slots c.deref-2.result.now
-    c.kept-kept.result.now c.deref-2.ensures.value (c.kept-kept.ensures ∙ kept-now c.self.inside c.self.invariant)
-    c.in_ok-gains.ensures.long)) c.in_ok-check_path.ensures (let first = c.requires.first in let last = c.requires.last in omega arith)
+    (subst (λ (t : Table). too_long t parents ≡ None) (sym c.self.view_is) c.in_ok-node.ensures.short)
+    (subst (λ (t : Table). length n.path.pairs ≤ t.limits.max_path) (sym c.self.view_is) c.in_ok-node.ensures.own)
+    (let first = c.requires.first in let last = c.requires.last in omega arith)
     (c.requires.next ∙ ap (λ (m : ℕ). m + 1) (unwrap_or-slice_get c.args.self.now.counts i 0
     ∙ ap (λ (t : Table). get_or t.counts i 0) (sym c.self.view_is))) c.set_count.ensures.fits refl refl
     c.first_arrival-since.result c.put_time.ensures.own (λ k ne. c.put_time.ensures.others k ne ∙ ap (λ ts. get_or ts k 0) c.make_state_room.ensures.since)
@@ -584,12 +512,8 @@ returns-clause-added c = λ rs ks r stands is may.
     let kept : a.kept ≡ length old.entries = sym (entries-long a c.self.invariant) ∙ ap (λ (t : Table). length t.entries) c.self.view_is in
     let room = ne_eqb (length old.entries) old.limits.max_kept (λ e.
     let equal : a.kept ≡ a.limits.max_kept = kept ∙ e ∙ sym (ap (λ (t : Table). t.limits.max_kept) c.self.view_is) in
-    let has_room = c.if-self.false in
+    let has_room = room-left c.self.inside c.self.invariant c.args.self.now c.self.view_is c.in_ok-node.ensures.room in
     omega arith) in
-    let told = nothing-told (seen a) parents n.id (length n.path.pairs) (found-all a c.self.invariant)
-    (none-seen c.self.inside c.self.invariant c.args.self.now c.self.view_is c.args.parents.now c.requires.slots c.deref-2.result.now
-    c.kept-kept.result.now c.deref-2.ensures.value (c.kept-kept.ensures ∙ kept-now c.self.inside c.self.invariant)
-    c.in_ok-gains.ensures.long) c.in_ok-check_path.ensures in
-    let seen_told = subst (λ (t : Table). path_refusal t n.id parents (length n.path.pairs) ≡ None) c.self.view_is told in
-    let named = subst (λ (x : StateId). path_refusal old x parents (length n.path.pairs) ≡ None) entry.id_is seen_told in
+    let told = nothing-told old parents n.id (length n.path.pairs) c.in_ok-node.ensures.short c.in_ok-node.ensures.own in
+    let named = subst (λ (x : StateId). path_refusal old x parents (length n.path.pairs) ≡ None) entry.id_is told in
     added-as old new rs ks r parents stands may slot id e is g.0 g.1 (refused-alike old id parents (length n.path.pairs) None room named)
