@@ -1,6 +1,6 @@
 use Rattle.std.proofs.Common.{◌≡◌, ap, ◌∙◌, ◌+◌, ◌-◌, ◌++◌, arith, length, List, take, drop, get_or}
 use Rattle.std.specs.List.{insert, remove}
-use Rattle.std.proofs.lemmas.List.{length-drop, length-take, take-append-le, take_all}
+use Rattle.std.proofs.lemmas.List.{length-append, length-drop, length-take, take-append-le, take_all}
 use Rattle.shift_list.specs.Shifted.{Shifted}
 use Rattle.shift_list.proofs.Turned.{turned, turned-long}
 use Rattle.shift_list.proofs.ShiftList.carry.Goals as goal
@@ -33,3 +33,31 @@ returns-clause-items g c = λ d.
     ap (drop b) back
     ∙ turned b f t k now ys d (omega arith) order (omega arith) c.rotate_left.ensures.after
     ∙ ap (λ (l : List g.row.T.Denot). insert (remove l f) t (get_or l f d)) (ap (drop b) all ∙ same)
+
+pub returns-clause-room : goal.returns-clause-room
+returns-clause-room g c = ap (λ (l : Shifted g.row.T.Denot). l.room) c.self.view_is
+
+pub invariant_of-self : goal.invariant_of-self
+invariant_of-self g c =
+    let b = c.self.inside.blank in
+    let f = c.args.from in
+    let t = c.args.to in
+    let ps = c.self.inside.places.items in
+    let k = b + t + 1 - (b + f) in
+    let ys = c.rotate_left.new.self in
+    let now = c.deref_mut.result.now in
+    let all : now ≡ ps = c.deref_mut.ensures.value in
+    let long = ap length (ap (λ (l : Shifted g.row.T.Denot). l.items) c.self.view_is) in
+    let rest = length-drop b ps in
+    let within = c.requires.within in
+    let order = c.requires.order in
+    let count = ap length all in
+    let mid = length-take k (drop (b + f) now) in
+    let from = length-drop (b + f) now in
+    let part = c.rotate_left.ensures.len in
+    let whole = take (b + f) now ++ (ys ++ drop k (drop (b + f) now)) in
+    let kept = turned-long (b + f) k now ys (omega arith) (omega arith) in
+    let ok = c.self.inside.places.ok.0 in
+    let taken = length-take c.self.inside.places.len (whole ++ drop (length whole) ps) in
+    let joined = length-append whole (drop (length whole) ps) in
+    omega arith
