@@ -61,3 +61,60 @@ invariant_of-self g c =
     let taken = length-take c.self.inside.places.len (whole ++ drop (length whole) ps) in
     let joined = length-append whole (drop (length whole) ps) in
     omega arith
+
+pub overflow_add-first : goal.overflow_add-first
+overflow_add-first g c =
+    let long = ap length (ap (λ (l : Shifted g.row.T.Denot). l.items) c.self.view_is) in
+    let rest = length-drop c.self.inside.blank c.self.inside.places.items in
+    let within = c.requires.within in
+    let order = c.requires.order in
+    let ok = c.self.inside.places.ok.0 in
+    omega arith
+
+pub overflow_add-end : goal.overflow_add-end
+overflow_add-end g c =
+    let long = ap length (ap (λ (l : Shifted g.row.T.Denot). l.items) c.self.view_is) in
+    let rest = length-drop c.self.inside.blank c.self.inside.places.items in
+    let within = c.requires.within in
+    let order = c.requires.order in
+    let ok = c.self.inside.places.ok.0 in
+    omega arith
+
+pub overflow_add-end-2 : goal.overflow_add-end-2
+overflow_add-end-2 g c =
+    let long = ap length (ap (λ (l : Shifted g.row.T.Denot). l.items) c.self.view_is) in
+    let rest = length-drop c.self.inside.blank c.self.inside.places.items in
+    let within = c.requires.within in
+    let order = c.requires.order in
+    let ok = c.self.inside.places.ok.0 in
+    omega arith
+
+pub slice_bounds-rotate_left-end : goal.slice_bounds-rotate_left-end
+slice_bounds-rotate_left-end g c =
+    let long = ap length (ap (λ (l : Shifted g.row.T.Denot). l.items) c.self.view_is) in
+    let rest = length-drop c.self.inside.blank c.self.inside.places.items in
+    let within = c.requires.within in
+    let order = c.requires.order in
+    let all = ap length c.deref_mut.ensures.value in
+    omega arith
+
+pub rotate_left-requires : goal.rotate_left-requires
+rotate_left-requires g c =
+    let long = ap length (ap (λ (l : Shifted g.row.T.Denot). l.items) c.self.view_is) in
+    let rest = length-drop c.self.inside.blank c.self.inside.places.items in
+    let within = c.requires.within in
+    let order = c.requires.order in
+    let all = ap length c.deref_mut.ensures.value in
+    let mid = length-take (c.self.inside.blank + c.args.to + 1 - (c.self.inside.blank + c.args.from)) (drop (c.self.inside.blank + c.args.from) c.deref_mut.result.now) in
+    let from = length-drop (c.self.inside.blank + c.args.from) c.deref_mut.result.now in
+    omega arith
+
+pub slice_bounds-rotate_left-start : goal.slice_bounds-rotate_left-start
+slice_bounds-rotate_left-start g c =
+    let order = c.requires.order in
+    omega arith
+
+pub slice_bounds-rotate_left-count : goal.slice_bounds-rotate_left-count
+slice_bounds-rotate_left-count g c =
+    let order = c.requires.order in
+    omega arith

@@ -61,3 +61,51 @@ returns-clause-items g c =
     ap (λ (l : List g.row.T.Denot). drop (b + 1) (set l b blank)) back
     ∙ front-rest b p k now ys blank (omega arith) (omega arith) c.rotate_right.ensures.after
     ∙ ap (λ (l : List g.row.T.Denot). remove l p) (ap (drop b) all ∙ same)
+
+pub overflow_add-first : goal.overflow_add-first
+overflow_add-first g c =
+    let long = ap length (ap (λ (l : Shifted g.row.T.Denot). l.items) c.self.view_is) in
+    let rest = length-drop c.self.inside.blank c.self.inside.places.items in
+    let within = c.requires in
+    let ok = c.self.inside.places.ok.0 in
+    omega arith
+
+pub overflow_add-first-2 : goal.overflow_add-first-2
+overflow_add-first-2 g c =
+    let long = ap length (ap (λ (l : Shifted g.row.T.Denot). l.items) c.self.view_is) in
+    let rest = length-drop c.self.inside.blank c.self.inside.places.items in
+    let within = c.requires in
+    let ok = c.self.inside.places.ok.0 in
+    omega arith
+
+pub overflow_add-self : goal.overflow_add-self
+overflow_add-self g c =
+    let long = ap length (ap (λ (l : Shifted g.row.T.Denot). l.items) c.self.view_is) in
+    let rest = length-drop c.self.inside.blank c.self.inside.places.items in
+    let within = c.requires in
+    let ok = c.self.inside.places.ok.0 in
+    omega arith
+
+pub slice_bounds-rotate_right-end : goal.slice_bounds-rotate_right-end
+slice_bounds-rotate_right-end g c =
+    let long = ap length (ap (λ (l : Shifted g.row.T.Denot). l.items) c.self.view_is) in
+    let rest = length-drop c.self.inside.blank c.self.inside.places.items in
+    let within = c.requires in
+    let all = ap length c.deref_mut.ensures.value in
+    omega arith
+
+pub rotate_right-requires : goal.rotate_right-requires
+rotate_right-requires g c =
+    let long = ap length (ap (λ (l : Shifted g.row.T.Denot). l.items) c.self.view_is) in
+    let rest = length-drop c.self.inside.blank c.self.inside.places.items in
+    let within = c.requires in
+    let all = ap length c.deref_mut.ensures.value in
+    let mid = length-take (c.self.inside.blank + c.args.place + 1 - c.self.inside.blank) (drop c.self.inside.blank c.deref_mut.result.now) in
+    let from = length-drop c.self.inside.blank c.deref_mut.result.now in
+    omega arith
+
+pub slice_bounds-rotate_right-start : goal.slice_bounds-rotate_right-start
+slice_bounds-rotate_right-start g c = omega arith
+
+pub slice_bounds-rotate_right-count : goal.slice_bounds-rotate_right-count
+slice_bounds-rotate_right-count g c = omega arith
