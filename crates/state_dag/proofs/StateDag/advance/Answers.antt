@@ -1,8 +1,11 @@
-use Rattle.std.proofs.Common.{◌≡◌, ◌∙◌, ◌+◌, ◌-◌, ◌<◌, ℕ, List, [], ◌∷◌, ◌++◌, length, cond, eqb, get_or, set, Option, Some, None}
+use Rattle.std.proofs.Common.{◌≡◌, ◌∙◌, ◌+◌, ◌-◌, ◌<◌, ℕ, List, [], ◌∷◌, ◌++◌, length, cond, eqb, get_or, set, Option, Some, None, Result, Err}
 use Rattle.std.proofs.lemmas.Bool.{and_parts, cond-true, cond-false, eq-eqb, ne_eqb}
 use Rattle.std.proofs.Common.{Bool, ◌&&◌, true, false, refl, sym, ap, ap₂, subst, arith}
 use Rattle.std.specs.Option.{option_map, option_map_or}
 use Rattle.std.proofs.lemmas.Option.{unwrap_or-slice_get, same_Some}
+use Rattle.std.proofs.lemmas.Result.{err_from_is_err_and}
+use Rattle.state_dag.specs.declared.rows.RowFault.{RowFault}
+use Rattle.state_dag.specs.declared.rows.RowFault.TheVariants.{BadSite, Empty, SeqEnd, NoMemory}
 use Rattle.tardis_base.specs.declared.ids.StateId.{StateId}
 use Rattle.tardis_base.specs.declared.ids.Slot.{Slot}
 use Rattle.tardis_base.specs.Ids.{same_id}
@@ -17,15 +20,43 @@ use Rattle.state_dag.specs.Nodes.{AreDistinct}
 use Rattle.plain_dag.specs.Rows.{lengthened, row_left}
 use Rattle.tardis_base.specs.declared.records.Limits.{Limits}
 use Rattle.state_dag.proofs.KeptEntries.{slots_of}
-use Rattle.state_dag.specs.Rows.{count_at, further, moved_on, with_last, advanced}
+use Rattle.state_dag.specs.Rows.{count_at, further, row_fault, moved_on, with_last, advanced, AdvancedBy}
 use Rattle.state_dag.proofs.Memory.{slot-place, entries-apart, entries-long}
 use Rattle.state_dag.proofs.NewIds.{uncounted-none}
 use Rattle.state_dag.proofs.SameEntries.{sum-within}
 use Rattle.state_dag.proofs.Known.{limits-parts}
+use Rattle.state_dag.proofs.HeldNext.{held-stays}
 use Rattle.state_dag.proofs.RowSteps.{IsAllowed, allowed, with_last-at, row-stands}
 use Rattle.state_dag.proofs.RowMemory.{last-split, found-end, earlier-than-last, entries-moved, found-last, found-other-than, slots-same, held-moved}
 use Rattle.state_dag.proofs.StateDag.advance.Goals as goal
 use Rattle.state_dag.proofs.StateDag.advance.Goals.{then-count-eq1, else-count-eq1}
+
+-- what a fault of the row's end tells
+row-refused : (table : Table) (site n : ℕ) (fault : RowFault) → row_fault table site n ≡ Some fault → AdvancedBy table table site n (Err fault)
+row-refused table site n BadSite e = (e, refl)
+row-refused table site n Empty e = (e, refl)
+row-refused table site n SeqEnd e = (e, refl)
+row-refused table site n NoMemory e = refl
+
+pub returns-in_err-last-clause-advanced : goal.returns-in_err-last-clause-advanced
+returns-in_err-last-clause-advanced c =
+    let table = c.args.self.now in
+    let p = err_from_is_err_and c.from_residual.result c.from_residual.ensures.1 in
+    let wrong : RowFault → Result Slot RowFault = λ f. Err f in
+    subst (λ (r : Result Slot RowFault). AdvancedBy table table c.args.site c.args.count r) (sym (p.1 ∙ ap wrong p.2))
+    (row-refused table c.args.site c.args.count c.in_err-last.field-0.0 c.in_err-last.ensures.fault)
+
+pub invariant_of-self : goal.invariant_of-self
+invariant_of-self c =
+    let a = c.self.inside in
+    held-stays a (record a { slots = c.put.new.self }) c.self.invariant refl refl refl refl refl refl refl refl c.in_err-put.ensures.same refl
+
+pub returns-in_err-put-clause-advanced : goal.returns-in_err-put-clause-advanced
+returns-in_err-put-clause-advanced c =
+    let table = c.args.self.now in
+    let p = err_from_is_err_and c.from_residual-in_err-put.result c.from_residual-in_err-put.ensures.1 in
+    let wrong : RowFault → Result Slot RowFault = λ f. Err f in
+    subst (λ (r : Result Slot RowFault). AdvancedBy table (seen c.self.inside) c.args.site c.args.count r) (sym (p.1 ∙ ap wrong p.2)) c.self.view_is
 
 pub put-requires : goal.put-requires
 put-requires c = λ x of_site from.

@@ -4,6 +4,7 @@ use Rattle.std.specs.List.{list_all}
 use Rattle.std.proofs.lemmas.Result.{err_from_is_err_and}
 use Rattle.tardis_base.specs.declared.ids.Slot.{Slot}
 use Rattle.tardis_base.specs.declared.faults.AddFault.{AddFault}
+use Rattle.tardis_base.specs.declared.faults.AddFault.TheVariants.{NoMemory}
 use Rattle.state_dag.specs.declared.nodes.Node.{Node}
 use Rattle.state_dag.specs.Table.{Table}
 use Rattle.state_dag.specs.Views.{entry_of}
@@ -50,6 +51,12 @@ returns-then-self-clause-refused c = λ rs ks r stands is may.
     let equal : a.kept ≡ a.limits.max_kept = omega arith in
     full old old rs ks r c.args.parents.now stands a.kept (sym (entries-long a c.self.invariant) ∙ ap (λ (t : Table). length t.entries) c.self.view_is)
     (equal ∙ ap (λ (t : Table). t.limits.max_kept) c.self.view_is) refl
+
+pub returns-in_err-node-clause-refused : goal.returns-in_err-node-clause-refused
+returns-in_err-node-clause-refused c = λ rs ks r stands is may.
+    let old = c.args.self.now in
+    let p = err_from_is_err_and c.from_residual.result c.from_residual.ensures.1 in
+    passed_on (λ f. AddedTo old old rs ks r (Err f)) c.from_residual.result _ NoMemory p.1 p.2 refl
 
 pub returns-in_err-gains-clause-refused : goal.returns-in_err-gains-clause-refused
 returns-in_err-gains-clause-refused c = λ rs ks r stands is may.
