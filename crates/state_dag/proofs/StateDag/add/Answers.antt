@@ -15,7 +15,8 @@ use Rattle.state_dag.specs.Views.{entry_of, entries_in}
 use Rattle.state_dag.specs.Stands.{Stands}
 use Rattle.state_dag.specs.Answers.{MayBeAdded, AddedTo, IsNewSlot, KeepsSlots}
 use Rattle.state_dag.specs.Grown.{is_slot_among, refusal_of, too_long, IsNewEntry, IsGrown}
-use Rattle.state_dag.specs.Nodes.{table_of, path_refusal, slot_after_all, with_slot}
+use Rattle.state_dag.specs.declared.leads.Gain.{Gain}
+use Rattle.state_dag.specs.Nodes.{HasPathRoom, table_of, path_refusal, slot_after_all, with_slot}
 use Rattle.state_dag.specs.Held.{kept_of, seen}
 use Rattle.state_dag.proofs.NewIds.{uncounted-none}
 use Rattle.state_dag.proofs.Following.{Follow}
@@ -517,3 +518,50 @@ returns-clause-added c = λ rs ks r stands is may.
     let told = nothing-told old parents n.id (length n.path.pairs) c.in_ok-node.ensures.short c.in_ok-node.ensures.own in
     let named = subst (λ (x : StateId). path_refusal old x parents (length n.path.pairs) ≡ None) entry.id_is told in
     added-as old new rs ks r parents stands may slot id e is g.0 g.1 (refused-alike old id parents (length n.path.pairs) None room named)
+
+pub growth-requires : goal.growth-requires
+growth-requires c = c.requires.slots
+
+pub grow-requires-clause-paths : goal.grow-requires-clause-paths
+grow-requires-clause-paths c =
+    subst (λ (gs : List Gain). HasPathRoom c.make_state_room.new.nodes.items gs) (c.deref.ensures.value ∙ sym c.deref-4.ensures.value)
+    c.in_ok-make_state_room.ensures.paths
+
+pub grow-requires-clause-children : goal.grow-requires-clause-children
+grow-requires-clause-children c = c.in_ok-make_state_room.ensures.children
+
+pub put_time-requires-clause-room : goal.put_time-requires-clause-room
+put_time-requires-clause-room c = c.in_ok-make_state_room.ensures.time
+
+pub keep-requires-clause-room : goal.keep-requires-clause-room
+keep-requires-clause-room c = c.in_ok-make_state_room.ensures.slot
+
+pub put_node-requires-clause-room : goal.put_node-requires-clause-room
+put_node-requires-clause-room c =
+    let room = c.in_ok-make_state_room.ensures.node in
+    let long = c.grow.ensures.room in
+    let capacity = c.grow.ensures.capacity in
+    omega arith
+
+pub push_reserved-requires : goal.push_reserved-requires
+push_reserved-requires c =
+    let room = c.in_ok-make_state_room.ensures.leaf in
+    let long = c.drop_slots.ensures.len in
+    let capacity = c.drop_slots.ensures.capacity in
+    omega arith
+
+pub set_count-requires-clause-last : goal.set_count-requires-clause-last
+set_count-requires-clause-last c =
+    let last = c.requires.last in
+    let sites = c.self.invariant.sites in
+    let most = ap (λ (t : Table). t.limits.sites) c.self.view_is in
+    omega arith
+
+pub returns-clause-limits : goal.returns-clause-limits
+returns-clause-limits c = ap (λ (t : Table). t.limits) c.self.view_is
+
+pub returns-in_err-make_state_room-clause-limits : goal.returns-in_err-make_state_room-clause-limits
+returns-in_err-make_state_room-clause-limits c = ap (λ (t : Table). t.limits) c.self.view_is
+
+pub returns-in_err-put-clause-limits : goal.returns-in_err-put-clause-limits
+returns-in_err-put-clause-limits c = ap (λ (t : Table). t.limits) c.self.view_is
