@@ -1,6 +1,8 @@
 -- A site at rest stands on its store and its book.
-use Rattle.std.proofs.Common.{◌≡◌, ℕ, List, [], length, sym, ap, subst, ◌∙◌}
+use Rattle.std.proofs.Common.{◌≡◌, ℕ, List, [], length, Result, Ok, Err, sym, ap, subst, ◌∙◌}
+use Rattle.std.specs.Prelude.{IfOk}
 use Rattle.std.specs.Option.{option_map}
+use Rattle.tardis_base.specs.declared.faults.NoMemory.{NoMemory as OutOfMemory}
 use Rattle.tardis_base.specs.declared.records.Record.{Record}
 use Rattle.plain_dag.specs.Entries.{entry_of}
 use Rattle.record_store.specs.Store.{Store}
@@ -9,6 +11,7 @@ use Rattle.ceiling_book.specs.Places.{AreSlots}
 use Rattle.merge_txn.specs.declared.Txn.{Txn as Kept}
 use Rattle.plain_site.specs.Site.{Site}
 use Rattle.session_core.specs.Txns.{IsNamed}
+use Rattle.session_core.specs.Core.{Core}
 use Rattle.session_core.specs.Stands.{CoreStands, txn_of}
 use Rattle.session_core.specs.Together.{RestTogether}
 use Rattle.ceiling_book.proofs.Growth.{placed-are_slots}
@@ -22,6 +25,12 @@ module _ (store : Store) (book : Book) where
   -- there is a floor for each site
   pub together-floors : (site : Site) → RestTogether store book site → length (floors_of book) ≡ store.table.limits.sites
   together-floors site t = ap length t.floors ∙ t.sound.one_floor_each ∙ sym (ap (λ l. l.sites) t.limits)
+
+  -- what stands at each site that they stand for does so at one of them
+  pub stands-at : (made : Result Core OutOfMemory) (site : Site) → IfOk made (λ core. (other : Site) → RestTogether store book other → CoreStands core other)
+      → RestTogether store book site → IfOk made (λ core. CoreStands core site)
+  stands-at (Ok core) site stands t = stands site t
+  stands-at (Err fault) site stands t = stands
 
   -- with no transaction and nothing that waits they stand for the site
   pub together-stand : (site : Site) → RestTogether store book site → (txns : List (ℕ × Kept)) (waiting : List Record) → txns ≡ [] → waiting ≡ [] →

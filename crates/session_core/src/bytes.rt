@@ -312,6 +312,7 @@ impl SiteCore {
     {
         let reply = self.answer_owned(actor, request)?;
         give(&reply, out);
+        drop(reply);
         Ok(())
     }
 

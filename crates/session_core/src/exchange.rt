@@ -62,12 +62,18 @@ impl Parts {
     {
         match self.judge(&rec)? {
             Judged::Fit => self.add(rec),
-            Judged::Known => Ok(Reply::Known),
+            Judged::Known => {
+                drop(rec);
+                Ok(Reply::Known)
+            },
             Judged::Early { have } => {
-                let _ = self.waiting.hold(rec);
+                drop(self.waiting.hold(rec));
                 Ok(Reply::Early { have })
             },
-            Judged::Refused(refusal) => Err(Stop::Refused(refusal)),
+            Judged::Refused(refusal) => {
+                drop(rec);
+                Err(Stop::Refused(refusal))
+            },
         }
     }
 
@@ -112,10 +118,12 @@ impl Parts {
         ensures arrives { ArrivesAs self.old self.new rec result }
         ensures applied { IfOk result (λ reply. reply ≡ Reply.Applied) }
     {
+        let mut rec = rec;
         let slots = self.store.slots_of(rec.parents.as_slice());
-        let mut writes = rec.writes;
-        self.store
-            .commit(rec.id, &slots[..rec.parents.len()], &mut writes)?;
+        let below = &slots[..rec.parents.len()];
+        let added = self.store.commit(rec.id, below, &mut rec.writes);
+        drop(rec);
+        added?;
         Ok(Reply::Applied)
     }
 
@@ -163,7 +171,7 @@ impl Parts {
         ensures { SettlesAt self.old self.new place result }
     {
         self.store.add_record(self.waiting.at(place))?;
-        let _ = self.waiting.take(place);
+        drop(self.waiting.take(place));
         Ok(Reply::Applied)
     }
 }

@@ -52,4 +52,5 @@ pub fn give_refused(refusal: Refusal, out: &mut ReplyBuf)
     ensures { out.new ≡ reply_spelling (Reply.Refused refusal) }
 {
     write_refused(&refusal, out);
+    drop(refusal);
 }

@@ -132,17 +132,14 @@ impl Parts {
         requires last { own ≤ limits.now.sites }
         ensures stands { IfOk result (λ core. CoreStands core (opening limits.now own)) }
     {
-        let waiting = WaitRoom::new(alloc)?;
         let store = RecordStore::new(alloc, keys, limits)?;
         let root = store.dag().last();
-        let book = CeilingBook::new(alloc, limits, own, root)?;
-        let txns = TxnBook::new(alloc);
-        Ok(Parts {
-            alloc,
-            store,
-            book,
-            txns,
-            waiting,
-        })
+        match CeilingBook::new(alloc, limits, own, root) {
+            Ok(book) => Parts::resting(alloc, store, book),
+            Err(NoMemory) => {
+                drop(store);
+                Err(NoMemory)
+            },
+        }
     }
 }

@@ -57,8 +57,13 @@ impl Parts {
         ensures { ReadsAt self.old self.new actor slot key.now result }
     {
         let reply = reply_of(self.store.read_at(slot, key))?;
-        self.note_copy(actor, key)?;
-        Ok(reply)
+        match self.note_copy(actor, key) {
+            Ok(()) => Ok(reply),
+            Err(stop) => {
+                drop(reply);
+                Err(stop)
+            },
+        }
     }
 
     /// Notes a copy of the key, which the actor's transaction, a single one that hasn't written to it, reads.

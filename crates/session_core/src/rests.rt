@@ -134,8 +134,14 @@ fn taken(outcome: Result<Reply, Stop>) -> Result<bool, NoMemory>
     ensures { TakenAs outcome result }
 {
     match outcome {
-        Ok(_) => Ok(true),
-        Err(Stop::Refused(_)) => Ok(false),
+        Ok(reply) => {
+            drop(reply);
+            Ok(true)
+        },
+        Err(Stop::Refused(refusal)) => {
+            drop(refusal);
+            Ok(false)
+        },
         Err(Stop::NoMemory) => Err(NoMemory),
     }
 }

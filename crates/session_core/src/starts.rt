@@ -36,20 +36,32 @@ impl SiteCore {
 
 impl Parts {
     /// Those of the site at rest: this store and this book, no open transaction, and nothing that waits.
-    fn resting(alloc: Global, store: RecordStore, book: CeilingBook) -> Result<Parts, NoMemory>
+    pub(crate) fn resting(
+        alloc: Global,
+        store: RecordStore,
+        book: CeilingBook,
+    ) -> Result<Parts, NoMemory>
         requires { (site : Site) × RestTogether store book site }
         ensures store { IfOk result (λ core. core.store ≡ store) }
         ensures book { IfOk result (λ core. core.book ≡ book) }
         ensures stands { IfOk result (λ core. (site : Site) → RestTogether store book site → CoreStands core site) }
     {
-        let waiting = WaitRoom::new(alloc)?;
-        let txns = TxnBook::new(alloc);
-        Ok(Parts {
-            alloc,
-            store,
-            book,
-            txns,
-            waiting,
-        })
+        match WaitRoom::new(alloc) {
+            Ok(waiting) => {
+                let txns = TxnBook::new(alloc);
+                Ok(Parts {
+                    alloc,
+                    store,
+                    book,
+                    txns,
+                    waiting,
+                })
+            },
+            Err(NoMemory) => {
+                drop(store);
+                drop(book);
+                Err(NoMemory)
+            },
+        }
     }
 }

@@ -82,7 +82,8 @@ impl TxnBook {
         ensures begun { OnOk result (self.new ≡ with_entry session txn self.old) }
         ensures same { OnErr result (self.new ≡ self.old) }
     {
-        self.entries.insert(session, Some(txn))?;
+        let before = self.entries.insert(session, Some(txn))?;
+        drop(before);
         Ok(())
     }
 
@@ -155,7 +156,7 @@ impl TxnBook {
     pub fn close(&mut self, session: u16)
         ensures { self.new ≡ without_entry session self.old }
     {
-        self.entries.remove(&session);
+        drop(self.entries.remove(&session));
     }
 }
 
@@ -163,7 +164,7 @@ impl TxnBook {
 fn empty(place: &mut Option<Txn>)
     ensures { place.new ≡ None }
 {
-    *place = None;
+    drop(place.take());
 }
 
 /// Reads the key at the state of the transaction in this place, and notes the read.

@@ -23,17 +23,17 @@ slots_of-slots-requires-clause-listed c =
     let addable = subst (λ v. IsAddable v.store.table c.args.rec) (sym c.self.view_is) c.requires.fit in
     subst (λ (xs : List StateId). IsTrue (list_all (is_listed c.self.inside.store.table) xs)) (sym c.as_slice.ensures) addable.parents
 
-pub commit-requires-clause-first : goal.commit-requires-clause-first
-commit-requires-clause-first c = (record-shape c.args.rec c.requires.valid).0
+pub commit-added-requires-clause-first : goal.commit-added-requires-clause-first
+commit-added-requires-clause-first c = (record-shape c.args.rec c.requires.valid).0
 
-pub commit-requires-clause-last : goal.commit-requires-clause-last
-commit-requires-clause-last c = (subst (λ v. IsAddable v.store.table c.args.rec) (sym c.self.view_is) c.requires.fit).last
+pub commit-added-requires-clause-last : goal.commit-added-requires-clause-last
+commit-added-requires-clause-last c = (subst (λ v. IsAddable v.store.table c.args.rec) (sym c.self.view_is) c.requires.fit).last
 
-pub commit-requires-clause-next : goal.commit-requires-clause-next
-commit-requires-clause-next c = (subst (λ v. IsAddable v.store.table c.args.rec) (sym c.self.view_is) c.requires.fit).next
+pub commit-added-requires-clause-next : goal.commit-added-requires-clause-next
+commit-added-requires-clause-next c = (subst (λ v. IsAddable v.store.table c.args.rec) (sym c.self.view_is) c.requires.fit).next
 
-pub commit-requires-clause-slots : goal.commit-requires-clause-slots
-commit-requires-clause-slots c =
+pub commit-added-requires-clause-slots : goal.commit-added-requires-clause-slots
+commit-added-requires-clause-slots c =
     let table = c.self.inside.store.table in
     let ps = c.args.rec.parents in
     let named = subst (λ (xs : List StateId). map (id_at table) (take (length xs) c.slots_of-slots.result) ≡ map (λ x. Some x) xs) c.as_slice.ensures
@@ -42,10 +42,10 @@ commit-requires-clause-slots c =
     (named-are_slots table (take (length ps) c.slots_of-slots.result) ps named)
 
 pub invariant_of-self-2 : goal.invariant_of-self-2
-invariant_of-self-2 c = grown-parts c.self.inside c.commit.new.self c.self.invariant c.commit.ensures.keeps c.commit.ensures.limits
+invariant_of-self-2 c = grown-parts c.self.inside c.commit-added.new.self c.self.invariant c.commit-added.ensures.keeps c.commit-added.ensures.limits
 
-pub returns-in_err-commit-clause-arrives : goal.returns-in_err-commit-clause-arrives
-returns-in_err-commit-clause-arrives c = λ site stands sound may_arrive.
+pub returns-in_err-added-clause-arrives : goal.returns-in_err-added-clause-arrives
+returns-in_err-added-clause-arrives c = λ site stands sound may_arrive.
     let here = subst (λ v. CoreStands v site) (sym c.self.view_is) stands in
     let core = seen c.self.inside in
     let table = core.store.table in
@@ -55,10 +55,10 @@ returns-in_err-commit-clause-arrives c = λ site stands sound may_arrive.
     c.slots_of-slots.ensures in
     let named = subst (λ n. map (id_at table) (take n c.slots_of-slots.result) ≡ map (λ x. Some x) r.parents) (sym c.len.ensures) told in
     let may = fit-may-be-added core site r below here may_arrive named in
-    let added = c.in_err-commit.ensures.added site.dag site.collected r here.store refl refl may in
-    stopped (CoreStands (record core { store = c.commit.new.self })) (unless site (growth_refusals site r) (with_record r site, Applied)) site
-    (add_stop c.in_err-commit.field-0.0) c.from_residual.result c.from_residual.ensures.1
-    (growth-stops core site r c.commit.new.self here (with_record r site, Applied) c.in_err-commit.field-0.0 added c.in_err-commit.ensures.same.table)
+    let added = c.in_err-added.ensures.added site.dag site.collected r here.store refl refl may in
+    stopped (CoreStands (record core { store = c.commit-added.new.self })) (unless site (growth_refusals site r) (with_record r site, Applied)) site
+    (add_stop c.in_err-added.field-0.0) c.from_residual.result c.from_residual.ensures.1
+    (growth-stops core site r c.commit-added.new.self here (with_record r site, Applied) c.in_err-added.field-0.0 added c.in_err-added.ensures.same.table)
 
 pub returns-clause-arrives : goal.returns-clause-arrives
 returns-clause-arrives c = λ site stands sound may_arrive.
@@ -71,8 +71,8 @@ returns-clause-arrives c = λ site stands sound may_arrive.
     c.slots_of-slots.ensures in
     let named = subst (λ n. map (id_at table) (take n c.slots_of-slots.result) ≡ map (λ x. Some x) r.parents) (sym c.len.ensures) told in
     let may = fit-may-be-added core site r below here may_arrive named in
-    let added = c.in_ok-commit.ensures.added site.dag site.collected r here.store refl refl may in
-    as-given (CoreStands (record core { store = c.commit.new.self })) (unless site (growth_refusals site r) (with_record r site, Applied))
+    let added = c.in_ok-added.ensures.added site.dag site.collected r here.store refl refl may in
+    as-given (CoreStands (record core { store = c.commit-added.new.self })) (unless site (growth_refusals site r) (with_record r site, Applied))
     (with_record r site, Applied) Applied
-    (growth-free core site r c.commit.new.self here (with_record r site, Applied) c.in_ok-commit.field-0 added)
-    (grown-site core site r c.commit.new.self here added.1 c.commit.ensures.keeps c.commit.ensures.limits, refl)
+    (growth-free core site r c.commit-added.new.self here (with_record r site, Applied) c.in_ok-added.field-0 added)
+    (grown-site core site r c.commit-added.new.self here added.1 c.commit-added.ensures.keeps c.commit-added.ensures.limits, refl)

@@ -15,9 +15,9 @@ invariant_of-result c =
       places = together-slots store book site c.requires.1;
       slots = none-held (λ n held. IsTrue (has_slots store.table held)) c.new-txns.result c.new-txns.ensures;
       floors = together-floors store book site c.requires.1;
-      room = subst (λ room. IsTrue (list_all is_record room)) (sym c.in_ok-waiting.ensures) refl;
+      room = subst (λ room. IsTrue (list_all is_record room)) (sym c.in-Ok.ensures) refl;
     }
 
-pub returns-clause-stands : goal.returns-clause-stands
-returns-clause-stands c = λ site t.
-    together-stand c.args.store c.args.book site t c.new-txns.result c.in_ok-waiting.waiting c.new-txns.ensures c.in_ok-waiting.ensures
+pub returns-in-Ok-clause-stands : goal.returns-in-Ok-clause-stands
+returns-in-Ok-clause-stands c = λ site t.
+    together-stand c.args.store c.args.book site t c.new-txns.result c.in-Ok.waiting c.new-txns.ensures c.in-Ok.ensures

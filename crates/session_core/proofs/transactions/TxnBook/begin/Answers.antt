@@ -9,6 +9,6 @@ pub returns-clause-begun : goal.returns-clause-begun
 returns-clause-begun c =
     let n = c.args.session in
     let es = c.self.inside.entries.entries in
-    ap open_of (c.in_ok-insert.ensures.entries ∙ is-inserted n (Some c.args.txn) es)
-    ∙ open-with n c.args.txn es c.in_ok-insert.ensures.was_ordered
+    ap open_of (c.in_ok-before.ensures.entries ∙ is-inserted n (Some c.args.txn) es)
+    ∙ open-with n c.args.txn es c.in_ok-before.ensures.was_ordered
     ∙ ap (with_entry n c.args.txn) c.self.view_is
