@@ -71,14 +71,7 @@ impl Parts {
         requires { IsTrue (is_some (entry_of actor self.old.txns)) }
         ensures { NotesRead self.old self.new actor key.now result }
     {
-        self.note_read(actor, key.copy()?)
-    }
-
-    /// Notes that the actor's transaction, a single one that hasn't written to the key, reads it.
-    fn note_read(&mut self, actor: u16, key: Key) -> Result<(), Stop>
-        requires { IsTrue (is_some (entry_of actor self.old.txns)) }
-        ensures { NotesRead self.old self.new actor key result }
-    {
+        let key = key.copy()?;
         let noted = self.txns.note_read(actor, key).unwrap();
         match noted {
             Ok(()) => Ok(()),
