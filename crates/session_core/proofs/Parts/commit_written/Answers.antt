@@ -1,6 +1,8 @@
-use Rattle.std.proofs.Common.{◌≡◌, ◌∙◌, ◌+◌, [], map, ◌∷◌, Some, None, refl, sym, ap, subst}
+use Rattle.std.proofs.Common.{◌≡◌, ◌∙◌, ◌+◌, ◌-◌, ◌≤◌, IsTrue, [], map, ◌∷◌, Some, None, refl, sym, ap, subst}
 use Rattle.plain_dag.specs.Entries.{entry_of}
-use Rattle.state_dag.specs.Table.{id_at}
+use Rattle.std.specs.Prelude.{slice_get, unwrap_or}
+use Rattle.std.specs.List.{list_all}
+use Rattle.state_dag.specs.Table.{Table, id_at, is_slot}
 use Rattle.state_dag.specs.Stands.{Stands}
 use Rattle.ceiling_book.specs.Places.{AreSlots, ArePlaced}
 use Rattle.ceiling_book.proofs.Growth.{slots-grow, placed-grow}
@@ -12,6 +14,19 @@ use Rattle.session_core.specs.Stands.{CoreStands}
 use Rattle.session_core.proofs.Committing.{grown-held, commit-gives, commit-stops, may-commit, not-added-held, told-parents}
 use Rattle.session_core.proofs.Entries.{without-none}
 use Rattle.session_core.proofs.Parts.commit_written.Goals as goal
+
+pub commit-requires-clause-first : goal.commit-requires-clause-first
+commit-requires-clause-first c = c.own_site-own.ensures.first
+
+pub commit-requires-clause-last : goal.commit-requires-clause-last
+commit-requires-clause-last c = subst (λ n. c.own_site-own.result ≤ n) c.self.invariant.floors c.own_site-own.ensures.last
+
+pub commit-requires-clause-next : goal.commit-requires-clause-next
+commit-requires-clause-next c =
+    ap (λ n. n + 1) (c.count-count.ensures.is ∙ ap (λ (t : Table). unwrap_or (slice_get t.counts (c.own_site-own.result - 1)) 0) c.dag.ensures)
+
+pub commit-requires-clause-slots : goal.commit-requires-clause-slots
+commit-requires-clause-slots c = subst (λ v. IsTrue (list_all (is_slot v.store.table) c.args.below.now)) (sym c.self.view_is) c.requires.slots
 
 pub committed-requires-clause-slots : goal.committed-requires-clause-slots
 committed-requires-clause-slots c =
