@@ -1,4 +1,4 @@
-use Rattle.std.proofs.Common.{◌∙◌, [], map, sym, ap, subst}
+use Rattle.std.proofs.Common.{◌∙◌, [], map, IsTrue, sym, ap, subst}
 use Rattle.tardis_base.specs.Keys.{keys_of}
 use Rattle.plain_dag.specs.Landing.{landing, guarded}
 use Rattle.state_dag.specs.Table.{id_at}
@@ -9,11 +9,21 @@ use Rattle.plain_site.specs.Commits.{commit, commit_at, commit_below}
 use Rattle.session_core.specs.Commits.{commit_reply}
 use Rattle.session_core.specs.Guards.{HasTxn}
 use Rattle.session_core.specs.Stands.{CoreStands}
+use Rattle.session_core.specs.Txns.{has_slots}
 use Rattle.session_core.proofs.Answers.{as-done}
 use Rattle.session_core.proofs.Standing.{has-answer}
 use Rattle.session_core.proofs.Committing.{writes-too, below-is-kept, may-arrive}
 use Rattle.session_core.proofs.MergeCommitting.{merge-arrives, merges-below}
 use Rattle.session_core.proofs.Parts.commit.Goals as goal
+
+pub joined_slots-requires : goal.joined_slots-requires
+joined_slots-requires c = subst (λ t. IsTrue (has_slots c.args.self.now.store.table t)) c.in-Merge.is c.in_ok-merge.ensures.slots
+
+pub landing-landing-requires : goal.landing-landing-requires
+landing-landing-requires c = subst (λ t. IsTrue (has_slots c.args.self.now.store.table t)) c.in-Single.is c.in_ok-merge.ensures.slots
+
+pub commit_at-requires-clause-slot : goal.commit_at-requires-clause-slot
+commit_at-requires-clause-slot c = c.landing-landing.ensures.slot
 
 pub returns-in_ok-below-in-Merge : goal.returns-in_ok-below-in-Merge
 returns-in_ok-below-in-Merge c = λ site stands sound.
