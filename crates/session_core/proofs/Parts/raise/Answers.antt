@@ -1,10 +1,11 @@
-use Rattle.std.proofs.Common.{◌≡◌, ◌∙◌, Some, refl, sym, ap, ap₂, subst}
+use Rattle.std.proofs.Common.{◌≡◌, ◌∙◌, length, Some, refl, sym, ap, ap₂, subst}
 use Rattle.std.proofs.lemmas.Option.{same_Some}
 use Rattle.tardis_base.specs.declared.replies.Refusal.TheVariants.{FloorBack}
 use Rattle.plain_dag.specs.Floors.{floor_of}
 use Rattle.state_dag.specs.Table.{id_at}
 use Rattle.state_dag.specs.Stands.{Stands}
-use Rattle.ceiling_book.specs.Places.{ArePlaced}
+use Rattle.ceiling_book.specs.Book.{floors_of}
+use Rattle.ceiling_book.specs.Places.{AreSlots, ArePlaced}
 use Rattle.ceiling_book.specs.Floors.{RaisedIn}
 use Rattle.plain_site.specs.Answers.{refused}
 use Rattle.plain_site.specs.Site.{own_floor}
@@ -15,8 +16,19 @@ use Rattle.session_core.specs.Stands.{CoreStands}
 use Rattle.session_core.specs.Gives.{GivesOrStops, Stops}
 use Rattle.session_core.specs.declared.stops.Stop.TheVariants.{Refused as RefusedAs}
 use Rattle.session_core.proofs.FloorMoves.{gone-above, past-known, raise-back, raise-gives, raise-stops}
+use Rattle.session_core.proofs.Growing.{named-is_slot}
 use Rattle.session_core.proofs.Parts.raise.Goals as goal
 use Rattle.session_core.proofs.Parts.raise.Goals.{in-Ok, in-Err}
+
+pub raise-requires-clause-slots : goal.raise-requires-clause-slots
+raise-requires-clause-slots c = subst (AreSlots c.self.inside.book) (sym c.dag-dag.ensures) c.self.invariant.places
+
+pub raise-requires-clause-slot : goal.raise-requires-clause-slot
+raise-requires-clause-slot c = named-is_slot c.dag-dag.result.now c.in-Some.slot c.args.state c.in-Some.ensures.found
+
+pub raise-requires-clause-sites : goal.raise-requires-clause-sites
+raise-requires-clause-sites c =
+    subst (λ t. length (floors_of c.self.inside.book) ≡ t.limits.sites) (sym c.dag-dag.ensures) c.self.invariant.floors
 
 pub returns-in-None-clause-given : goal.returns-in-None-clause-given
 returns-in-None-clause-given c = λ site stands sound.

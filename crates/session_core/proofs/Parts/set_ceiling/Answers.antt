@@ -1,4 +1,4 @@
-use Rattle.std.proofs.Common.{◌≡◌, ◌∙◌, Some, refl, sym, ap, subst}
+use Rattle.std.proofs.Common.{◌≡◌, ◌∙◌, IsTrue, Some, refl, sym, ap, subst}
 use Rattle.std.proofs.lemmas.Option.{same_Some}
 use Rattle.tardis_base.specs.declared.replies.Refusal.TheVariants.{CeilingBack}
 use Rattle.plain_dag.specs.Entries.{entry_of}
@@ -11,7 +11,19 @@ use Rattle.session_core.specs.Stands.{CoreStands}
 use Rattle.session_core.proofs.Standing.{open-session, none-kept, no-txn-answer}
 use Rattle.session_core.proofs.Beginning.{collected-above}
 use Rattle.session_core.proofs.FloorMoves.{gone-above, back-ceiling}
+use Rattle.ceiling_book.specs.Book.{is_open}
+use Rattle.ceiling_book.specs.Places.{AreSlots}
+use Rattle.session_core.proofs.Growing.{named-is_slot}
 use Rattle.session_core.proofs.Parts.set_ceiling.Goals as goal
+
+pub set_ceiling-requires-clause-open : goal.set_ceiling-requires-clause-open
+set_ceiling-requires-clause-open c = subst (λ v. IsTrue (is_open v.book c.args.actor)) (sym c.self.view_is) c.in_ok-no_txn.ensures.open
+
+pub set_ceiling-requires-clause-slots : goal.set_ceiling-requires-clause-slots
+set_ceiling-requires-clause-slots c = subst (AreSlots c.self.inside.book) (sym c.dag-dag.ensures) c.self.invariant.places
+
+pub set_ceiling-requires-clause-slot : goal.set_ceiling-requires-clause-slot
+set_ceiling-requires-clause-slot c = named-is_slot c.dag-dag.result.now c.in-Some.slot c.args.state c.in-Some.ensures.found
 
 pub returns-in-None-clause-given : goal.returns-in-None-clause-given
 returns-in-None-clause-given c = λ site stands sound.

@@ -1,9 +1,9 @@
-use Rattle.std.proofs.Common.{Some, Ok, sym, subst, ◌∙◌, ◌≡◌, ◌==◌, length, [], replicate, arith}
+use Rattle.std.proofs.Common.{IsTrue, Some, Ok, sym, subst, ◌∙◌, ◌≡◌, ◌==◌, length, [], replicate, arith}
 use Rattle.std.proofs.lemmas.Bool.{and_parts}
 use Rattle.plain_dag.specs.Begin.{last_arrived}
 use Rattle.plain_dag.specs.Floors.{are_unpromised_above}
 use Rattle.plain_dag.specs.Rows.{row_left}
-use Rattle.state_dag.specs.Table.{id_at}
+use Rattle.state_dag.specs.Table.{id_at, is_slot}
 use Rattle.state_dag.specs.Rows.{further}
 use Rattle.plain_rows.specs.Rows.{row_of}
 use Rattle.session_core.specs.Held.{seen}
@@ -22,6 +22,11 @@ invariant_of-self c =
     c.set_floors.ensures.rest
     (c.set_floors.ensures.slots new (places-same old new c.advance.ensures.kept c.self.inside.book c.self.invariant.places)
     (named-is_slot new c.in-Ok.slot (further old c.args.site c.args.count) c.in-Ok.ensures.slot))
+
+pub id_of-newest-requires : goal.id_of-newest-requires
+id_of-newest-requires c =
+    subst (λ t. IsTrue (is_slot t c.in-Ok.slot)) (sym c.dag.ensures)
+    (named-is_slot c.advance.new.self.table c.in-Ok.slot (further c.self.inside.store.table c.args.site c.args.count) c.in-Ok.ensures.slot)
 
 pub returns-in-Ok : goal.returns-in-Ok
 returns-in-Ok c = λ site both.
