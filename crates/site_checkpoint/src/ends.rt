@@ -44,12 +44,19 @@ impl Checkpoint {
         ensures ended { EndsAs self own (floors_told floors.now) result }
         ensures opening { IfOk result (λ end. IfSome end (λ core. opened_with core ≡ opening self.store.table.limits own)) }
     {
-        match self.placed(floors)? {
-            Some(known) => {
+        match self.placed(floors) {
+            Ok(Some(known)) => {
                 let core = self.rested(own, known)?;
                 Ok(Some(core))
             },
-            None => Ok(None),
+            Ok(None) => {
+                drop(self);
+                Ok(None)
+            },
+            Err(NoMemory) => {
+                drop(self);
+                Err(NoMemory)
+            },
         }
     }
 
