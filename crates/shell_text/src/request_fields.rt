@@ -69,23 +69,28 @@ fn say_flags(flags: u8, k: u16, unread: &mut Unread, out: &mut LineBuf)
     requires { flags < 16 }
     ensures { putting unread.new out.new ≡ says (spaced (flags_word (record { 0 = flags }) k)) (putting unread.old out.old) }
 {
-    match flags {
-        0 => unread.say(b" -", out),
-        1 => unread.say(b" ser", out),
-        2 => unread.say(b" si", out),
-        3 => unread.say(b" ser+si", out),
-        4 => unread.say(b" nb", out),
-        5 => unread.say(b" ser+nb", out),
-        6 => unread.say(b" si+nb", out),
-        7 => unread.say(b" ser+si+nb", out),
-        8 => unread.say_digits(b" kb:", u64::from(k), out),
-        9 => unread.say_digits(b" ser+kb:", u64::from(k), out),
-        10 => unread.say_digits(b" si+kb:", u64::from(k), out),
-        11 => unread.say_digits(b" ser+si+kb:", u64::from(k), out),
-        12 => unread.say_digits(b" nb+kb:", u64::from(k), out),
-        13 => unread.say_digits(b" ser+nb+kb:", u64::from(k), out),
-        14 => unread.say_digits(b" si+nb+kb:", u64::from(k), out),
-        _ => unread.say_digits(b" ser+si+nb+kb:", u64::from(k), out),
+    let text: &[u8] = match flags {
+        0 => b" -",
+        1 => b" ser",
+        2 => b" si",
+        3 => b" ser+si",
+        4 => b" nb",
+        5 => b" ser+nb",
+        6 => b" si+nb",
+        7 => b" ser+si+nb",
+        8 => b" kb:",
+        9 => b" ser+kb:",
+        10 => b" si+kb:",
+        11 => b" ser+si+kb:",
+        12 => b" nb+kb:",
+        13 => b" ser+nb+kb:",
+        14 => b" si+nb+kb:",
+        _ => b" ser+si+nb+kb:",
+    };
+    if flags < 8 {
+        unread.say(text, out);
+    } else {
+        unread.say_digits(text, u64::from(k), out);
     }
 }
 
