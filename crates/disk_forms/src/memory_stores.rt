@@ -94,7 +94,7 @@ impl MemoryStore {
                 Err(Failed)
             }
             Held::Back(disk) => {
-                self.held = Held::Back(disk);
+                drop(mem::replace(&mut self.held, Held::Back(disk)));
                 self.faults = self.faults.saturating_add(1);
                 Err(Failed)
             }
@@ -125,7 +125,7 @@ impl Store for MemoryStore {
         if disk.faults() > 0 {
             self.faults = self.faults.saturating_add(1);
         }
-        self.held = Held::Back(disk);
+        drop(mem::replace(&mut self.held, Held::Back(disk)));
         self.is_locked = false;
     }
 
