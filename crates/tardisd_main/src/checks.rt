@@ -217,21 +217,37 @@ impl fmt::Display for FileCheck {
     }
 }
 
-impl fmt::Display for CheckedLog {
-    fn fmt<W: fmt::Write>(&self, f: &mut fmt::Formatter<W>) -> fmt::Result {
+impl CheckedLog {
+    /// The lines of what the file says of its site.
+    fn write_front<W: fmt::Write>(&self, f: &mut fmt::Formatter<W>) -> fmt::Result {
         let Place { sites, site } = self.place;
         writeln!(f, "format {}", version())?;
         writeln!(f, "site {site} of {sites}")?;
+        self.write_life(f)?;
+        write!(f, "limits states {} path {}", self.states, self.path)?;
+        writeln!(f, " sessions {}", self.sessions)
+    }
+
+    fn write_life<W: fmt::Write>(&self, f: &mut fmt::Formatter<W>) -> fmt::Result {
         write!(f, "life ")?;
         for byte in self.life.iter() {
             write!(f, "{byte:02x}")?;
         }
-        writeln!(f)?;
-        write!(f, "limits states {} path {}", self.states, self.path)?;
-        writeln!(f, " sessions {}", self.sessions)?;
+        writeln!(f)
+    }
+
+    /// The lines of what the site has that takes all back.
+    fn write_counts<W: fmt::Write>(&self, f: &mut fmt::Formatter<W>) -> fmt::Result {
         writeln!(f, "states known {} kept {}", self.known, self.kept)?;
         writeln!(f, "leaves {}", self.leaves)?;
-        writeln!(f, "keys {}", self.keys)?;
+        writeln!(f, "keys {}", self.keys)
+    }
+}
+
+impl fmt::Display for CheckedLog {
+    fn fmt<W: fmt::Write>(&self, f: &mut fmt::Formatter<W>) -> fmt::Result {
+        self.write_front(f)?;
+        self.write_counts(f)?;
         writeln!(f, "groups {}", self.groups)?;
         writeln!(f, "bytes text {} file {}", self.bytes, self.size)?;
         if self.is_torn {

@@ -82,7 +82,10 @@ fn serve_stored<D: Doors, K: BytewiseDisk, S: Store<Disk = K>>(
             store.put_back(disk);
             end
         }
-        Err(Failed) => DaemonEnd::File(unopened(store)),
+        Err(Failed) => {
+            drop(site);
+            DaemonEnd::File(unopened(store))
+        }
     }
 }
 
