@@ -270,8 +270,8 @@ class Build:
                 return
             if self.running and (is_alone or free_memory() < ROOM):
                 continue
-            # (processors that no other crate waits for)
-            jobs = 1 if is_alone else max(1, min(4, idle // (len(ready) - at)))
+            # (the first gets the processors that no other crate waits for)
+            jobs = 1 if is_alone else max(1, min(4, idle - (len(ready) - at - 1)))
             self.start(self.crates[name], jobs, is_alone)
 
     def start(self, crate, jobs, is_alone):
@@ -283,7 +283,10 @@ class Build:
 
     def finish(self, proof):
         crate, status = proof.crate, proof.process.returncode
-        if status == 0:
+        if status == 0 and crate.sum_up(self.toolchain.version) != proof.total:
+            # (its text changed meanwhile)
+            self.todo.append(crate.name)
+        elif status == 0:
             crate.keep(proof.total)
             self.tell(crate.name)
         elif proof.is_alone or status != -signal.SIGKILL:
@@ -334,7 +337,8 @@ def held(crates):
 
 def make(program, crates, toolchain, guard, folder):
     """Proves what isn't proved yet, and builds the program; logs and what isn't linked yet lie in the folder."""
-    crate, made, linked = crates[program], os.path.join(folder, f"{program}.o"), os.path.join(folder, program)
+    began, crate = time.time(), crates[program]
+    made, linked = os.path.join(folder, f"{program}.o"), os.path.join(folder, program)
     work = Build(program, crates, toolchain, guard, folder)
     if work.todo:
         work.run()
@@ -344,10 +348,11 @@ def make(program, crates, toolchain, guard, folder):
         with open(log, "ab") as file:
             if guard.start(words, crate.folder, file).wait():
                 failed(program, log)
-    # (in one step, so that nobody runs half a program)
+    # (in one step, so that nobody runs half a program; and text that changed meanwhile is newer)
     target = os.path.join(crate.folder, "out", program)
     os.makedirs(os.path.dirname(target), exist_ok=True)
     shutil.copy2(linked, f"{target}.new")
+    os.utime(f"{target}.new", (began, began))
     os.replace(f"{target}.new", target)
 
 
@@ -363,19 +368,18 @@ def make_by_rt(program, crate, folder):
 
 def build(program):
     """Proves and builds the program, unless it is there and newer than all that it is made from."""
-    began, crates = time.time(), crates_below(program)
-    crate = crates[program]
-    if crate.is_current():
+    crates = crates_below(program)
+    if crates[program].is_current():
         return
     toolchain = Toolchain(program)
     with tempfile.TemporaryDirectory(prefix=f"{program}-") as folder:
         if not toolchain.keeps_statements():
-            make_by_rt(program, crate, folder)
-        else:
-            with held(crates), contextlib.closing(Guard()) as guard:
+            make_by_rt(program, crates[program], folder)
+            return
+        with held(crates), contextlib.closing(Guard()) as guard:
+            # (another build, for which this one waited, may have made it)
+            if not crates[program].is_current():
                 make(program, crates, toolchain, guard, folder)
-    # (so that text that changed meanwhile is newer)
-    os.utime(os.path.join(crate.folder, "out", program), (began, began))
 
 
 def from_here(words):

@@ -188,6 +188,14 @@ class Builds(unittest.TestCase):
         self.assertEqual(self.ran("x")[:2], (3, "ran x\n"))
         self.assertEqual(self.asked(), ["prog"])
 
+    def test_text_that_changes_meanwhile_is_proved(self):
+        process = self.started()
+        self.wait_for("left")
+        self.write("repository/crates/left/src/lib.rt", "another text")
+        told = process.communicate(timeout=60)[1]
+        self.assertEqual(process.returncode, 3, told)
+        self.assertEqual(self.asked().count("left"), 2)
+
     def test_another_toolchain_proves_all_anew(self):
         self.ran()
         self.notes()
@@ -245,6 +253,13 @@ class Builds(unittest.TestCase):
         last = max(place for place, it in enumerate(noted) if it[:2] == ["build", "right"])
         self.assertEqual(noted[last + 1][:2], ["end", "right"])
         self.assertEqual(noted[last][2:], ["jobs", "1"])
+
+    def test_two_builds_at_once_make_the_program_once(self):
+        first, second = self.started("a"), self.started("b")
+        for process, wanted in ((first, "ran a\n"), (second, "ran b\n")):
+            out, told = process.communicate(timeout=60)
+            self.assertEqual((process.returncode, out), (3, wanted), told)
+        self.assertEqual(sorted(self.asked()), sorted(CRATES))
 
     def test_a_toolchain_without_statements_has_rt_do_all(self):
         self.write("old", "")
