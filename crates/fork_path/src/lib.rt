@@ -12,9 +12,9 @@ mod tiles;
 
 use crate::tile_lists::{count_of, drop_fork, merged, put_tile, tile_near, with_spare};
 pub use crate::tiles::Tile;
-use std::alloc::Global;
+use std::alloc::{AllocError, Global};
 use std::marker::Model;
-use tardis_base::NoMemory;
+
 
 /// How many tiles a path can have at most. No memory holds more.
 const MOST_TILES: usize = 1 << 57;
@@ -87,13 +87,13 @@ impl ForkPath {
     }
 
     /// Makes room for so many more pairs, and for no others. With no memory the pairs and the room stay.
-    pub fn reserve(&mut self, pairs: u32) -> Result<(), NoMemory>
+    pub fn reserve(&mut self, pairs: u32) -> Result<(), AllocError>
         ensures same { self.new.pairs ≡ self.old.pairs }
         ensures room { OnOk result (pairs ≤ self.new.room) }
         ensures more { self.old.room ≤ self.new.room }
     {
         if MOST_TILES - self.tiles.len() < pairs as usize {
-            return Err(NoMemory);
+            return Err(AllocError);
         }
         self.tiles.reserve_exact(pairs as usize)?;
         Ok(())
@@ -131,7 +131,7 @@ impl ForkPath {
     /// The cost grows with the two numbers of tiles: the tiles that both begin with are compared and then copied at once.
     /// Where there are none yet, those of `other` are copied at once, and there is room for two more then; where `other` has
     /// none either, no memory is taken.
-    pub fn unite(&mut self, other: &ForkPath) -> Result<(), NoMemory>
+    pub fn unite(&mut self, other: &ForkPath) -> Result<(), AllocError>
         ensures pairs { OnOk result ((p : ℕ × ℕ) → has_pair p self.new.pairs ≡ (has_pair p other.now.pairs || has_pair p self.old.pairs)) }
         ensures same { OnErr result (self.new.pairs ≡ self.old.pairs) }
         ensures ascending { IsTrue (are_ascending_pairs self.new.pairs) }
@@ -148,7 +148,7 @@ impl ForkPath {
         let alloc = *self.tiles.allocator();
         let tiles = merged(alloc, self.tiles.as_slice(), other.tiles.as_slice())?;
         if MOST_TILES < tiles.len() {
-            return Err(NoMemory);
+            return Err(AllocError);
         }
         self.tiles = tiles;
         Ok(())

@@ -8,8 +8,8 @@ ghost use Rattle.fork_path.specs.Pairs.{is_pair_before, are_ascending_pairs, is_
 ghost use Rattle.fork_path.specs.Tiles.{key_of, keys_of, holds, some_holds, pairs_of, HoldsPair};
 
 use crate::tiles::Tile;
-use std::alloc::Global;
-use tardis_base::NoMemory;
+use std::alloc::{AllocError, Global};
+
 
 /// How many pairs the tiles have.
 pub fn count_of(tiles: &[Tile]) -> usize
@@ -144,7 +144,7 @@ pub fn with_spare(tiles: usize) -> usize {
 }
 
 /// The pairs of both lists of ascending tiles.
-pub fn merged(alloc: Global, own: &[Tile], others: &[Tile]) -> Result<Vec<Tile>, NoMemory>
+pub fn merged(alloc: Global, own: &[Tile], others: &[Tile]) -> Result<Vec<Tile>, AllocError>
     ensures ascending { IsTrue (are_ascending_pairs (keys_of own.now)) → IsTrue (are_ascending_pairs (keys_of others.now))
         → IfOk result (λ tiles. IsTrue (are_ascending_pairs (keys_of tiles.items))) }
     ensures filled { All HoldsPair own.now → All HoldsPair others.now → IfOk result (λ tiles. All HoldsPair tiles.items) }
@@ -162,7 +162,7 @@ pub fn merged(alloc: Global, own: &[Tile], others: &[Tile]) -> Result<Vec<Tile>,
 }
 
 /// Puts the pairs of both lists of ascending tiles behind these tiles.
-fn add_merged(tiles: &mut Vec<Tile>, own: &[Tile], others: &[Tile]) -> Result<(), NoMemory>
+fn add_merged(tiles: &mut Vec<Tile>, own: &[Tile], others: &[Tile]) -> Result<(), AllocError>
     ensures keys { IsTrue (are_ascending_pairs (keys_of own.now)) → IsTrue (are_ascending_pairs (keys_of others.now))
         → OnOk result (keys_of tiles.new.items ≡ keys_of tiles.old.items ++ with_each (keys_of others.now) (keys_of own.now)) }
     ensures filled { All HoldsPair tiles.old.items → All HoldsPair own.now → All HoldsPair others.now → OnOk result (All HoldsPair tiles.new.items) }
