@@ -33,18 +33,11 @@ pub enum BeginFault {
 impl fmt::Display for BeginFault {
     fn fmt<W: fmt::Write>(&self, f: &mut fmt::Formatter<W>) -> fmt::Result {
         match *self {
-            BeginFault::Unknown { state } => {
-                let StateId { site, sequence } = state;
-                write!(f, "the state {site}.{sequence} has not arrived here")
-            },
-            BeginFault::Below { state, ceiling } => {
-                let StateId { site, sequence } = state;
-                write!(
-                    f,
-                    "the state {site}.{sequence} is above the session's ceiling {}.{}: begin at the ceiling, or at a state that is not above it",
-                    ceiling.site, ceiling.sequence
-                )
-            },
+            BeginFault::Unknown { state } => write!(f, "the state {state} has not arrived here"),
+            BeginFault::Below { state, ceiling } => write!(
+                f,
+                "the state {state} is above the session's ceiling {ceiling}: begin at the ceiling, or at a state that is not above it"
+            ),
         }
     }
 }

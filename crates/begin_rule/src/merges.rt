@@ -40,10 +40,9 @@ impl fmt::Display for MergeFault {
             },
             MergeFault::Comparable { a, b } => write!(
                 f,
-                "of the states {}.{} and {}.{} one is at or above the other: merge without one of them",
-                a.site, a.sequence, b.site, b.sequence
+                "of the states {a} and {b} one is at or above the other: merge without one of them"
             ),
-            MergeFault::NoMemory => write!(f, "out of memory"),
+            MergeFault::NoMemory => f.write_str("out of memory"),
         }
     }
 }

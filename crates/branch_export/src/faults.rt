@@ -17,9 +17,9 @@ pub enum ExportFault {
 impl fmt::Display for ExportFault {
     fn fmt<W: fmt::Write>(&self, f: &mut fmt::Formatter<W>) -> fmt::Result {
         match self {
-            ExportFault::NoState => write!(f, "the state is unknown or was collected"),
-            ExportFault::WriteFault => write!(f, "the export can't be written"),
-            ExportFault::NoMemory => write!(f, "there is no memory for the export"),
+            ExportFault::NoState => f.write_str("the state is unknown or was collected"),
+            ExportFault::WriteFault => f.write_str("the export can't be written"),
+            ExportFault::NoMemory => f.write_str("there is no memory for the export"),
         }
     }
 }

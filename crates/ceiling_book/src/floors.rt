@@ -31,10 +31,10 @@ pub struct CeilingBack {
 
 impl fmt::Display for CeilingBack {
     fn fmt<W: fmt::Write>(&self, f: &mut fmt::Formatter<W>) -> fmt::Result {
-        let StateId { site, sequence } = self.ceiling;
+        let ceiling = self.ceiling;
         write!(
             f,
-            "the session's ceiling {site}.{sequence} is not at or above the state: ceilings only go down"
+            "the session's ceiling {ceiling} is not at or above the state: ceilings only go down"
         )
     }
 }
@@ -56,20 +56,18 @@ impl fmt::Display for RaiseFault {
     fn fmt<W: fmt::Write>(&self, f: &mut fmt::Formatter<W>) -> fmt::Result {
         match *self {
             RaiseFault::FloorBack { floor } => {
-                let StateId { site, sequence } = floor;
                 write!(
                     f,
-                    "the floor {site}.{sequence} is not at or above the state: floors only go down"
+                    "the floor {floor} is not at or above the state: floors only go down"
                 )
             },
             RaiseFault::Held { session, ceiling } => {
-                let StateId { site, sequence } = ceiling;
                 write!(
                     f,
-                    "session {session} has its ceiling {site}.{sequence} above or beside the state: move its ceiling, or close it"
+                    "session {session} has its ceiling {ceiling} above or beside the state: move its ceiling, or close it"
                 )
             },
-            RaiseFault::SeqEnd => write!(f, "the numbers of this site's floors are used up"),
+            RaiseFault::SeqEnd => f.write_str("the numbers of this site's floors are used up"),
         }
     }
 }

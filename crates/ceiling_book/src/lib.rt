@@ -45,11 +45,11 @@ pub enum OpenFault {
 impl fmt::Display for OpenFault {
     fn fmt<W: fmt::Write>(&self, f: &mut fmt::Formatter<W>) -> fmt::Result {
         match self {
-            OpenFault::AlreadyOpen => write!(f, "the session is open already"),
+            OpenFault::AlreadyOpen => f.write_str("the session is open already"),
             OpenFault::SessionsFull { n } => {
                 write!(f, "{n} sessions are open, as many as may be: close one")
             },
-            OpenFault::NoMemory => write!(f, "out of memory"),
+            OpenFault::NoMemory => f.write_str("out of memory"),
         }
     }
 }

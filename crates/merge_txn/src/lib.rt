@@ -175,7 +175,7 @@ impl fmt::Display for TxnFault {
                     "the transaction would read {n} keys, one more than it may"
                 )
             },
-            TxnFault::NoMemory => write!(f, "out of memory"),
+            TxnFault::NoMemory => f.write_str("out of memory"),
         }
     }
 }

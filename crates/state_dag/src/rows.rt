@@ -53,18 +53,14 @@ impl From<NoMemory> for RowFault {
 impl fmt::Display for RowFault {
     fn fmt<W: fmt::Write>(&self, f: &mut fmt::Formatter<W>) -> fmt::Result {
         match self {
-            RowFault::BadSite => write!(
-                f,
-                "there is no site of that number: they are numbered from 1 to the limit"
+            RowFault::BadSite => f.write_str(
+                "there is no site of that number: they are numbered from 1 to the limit",
             ),
-            RowFault::Empty => write!(f, "there is no state in the row"),
+            RowFault::Empty => f.write_str("there is no state in the row"),
             RowFault::SeqEnd => {
-                write!(
-                    f,
-                    "the row would go on past the site's last sequence number"
-                )
+                f.write_str("the row would go on past the site's last sequence number")
             },
-            RowFault::NoMemory => write!(f, "out of memory"),
+            RowFault::NoMemory => f.write_str("out of memory"),
         }
     }
 }

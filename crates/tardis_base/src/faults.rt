@@ -96,7 +96,7 @@ impl From<NoMemory> for AddFault {
 
 impl fmt::Display for NoMemory {
     fn fmt<W: fmt::Write>(&self, f: &mut fmt::Formatter<W>) -> fmt::Result {
-        write!(f, "out of memory")
+        f.write_str("out of memory")
     }
 }
 
@@ -104,7 +104,7 @@ impl Error for NoMemory {}
 
 impl fmt::Display for SeqEnd {
     fn fmt<W: fmt::Write>(&self, f: &mut fmt::Formatter<W>) -> fmt::Result {
-        write!(f, "the site has given out its last sequence number")
+        f.write_str("the site has given out its last sequence number")
     }
 }
 
@@ -117,7 +117,7 @@ impl fmt::Display for BytesFault {
                 f,
                 "wrong length: a key has 1 to {MAX_KEY} bytes, and a value at most {MAX_VALUE}"
             ),
-            BytesFault::NoMemory => write!(f, "out of memory"),
+            BytesFault::NoMemory => f.write_str("out of memory"),
         }
     }
 }
@@ -127,8 +127,8 @@ impl Error for BytesFault {}
 impl fmt::Display for ReadFault {
     fn fmt<W: fmt::Write>(&self, f: &mut fmt::Formatter<W>) -> fmt::Result {
         match self {
-            ReadFault::Malformed => write!(f, "malformed: the bytes do not have the format"),
-            ReadFault::NoMemory => write!(f, "out of memory"),
+            ReadFault::Malformed => f.write_str("malformed: the bytes do not have the format"),
+            ReadFault::NoMemory => f.write_str("out of memory"),
         }
     }
 }
@@ -147,7 +147,7 @@ impl fmt::Display for AddFault {
                     "the fork path of state {state} would have {pairs} pairs, too many"
                 )
             },
-            AddFault::NoMemory => write!(f, "out of memory"),
+            AddFault::NoMemory => f.write_str("out of memory"),
         }
     }
 }
