@@ -19,6 +19,7 @@ use branch_export::{ExportFault, export_store};
 use session_core::SiteCore;
 use std::alloc::Global;
 use std::hash::RandomState;
+use std::mem;
 use tardis_base::{Limits, NoMemory, StateId};
 use tardis_io::{Sink, Source, Status};
 
@@ -105,7 +106,11 @@ pub fn export<I: Source, O: Sink>(
     ensures nothing { has_given result ≡ false → output.new ≡ output.old }
 {
     match SiteCore::new(alloc, keys, limits, own) {
-        Ok(mut site) => run_export(alloc, &mut site, state, input, output),
+        Ok(mut site) => {
+            let status = run_export(alloc, &mut site, state, input, output);
+            mem::forget(site); // the program ends, and gives all memory back at once
+            status
+        }
         Err(NoMemory) => Status::NoMemory,
     }
 }

@@ -12,13 +12,13 @@ pub returns-in-Ok-clause-outcome : goal.returns-in-Ok-clause-outcome
 returns-in-Ok-clause-outcome g c =
     let site = opening c.args.limits c.args.own in
     let old = g.O.Sink.given c.args.output.now in
-    let new = g.O.Sink.given c.run_export.new.output in
-    weaker (g.I.Source.left c.args.input.now) (g.I.Source.left c.run_export.new.input)
-    (ExportOutcome c.run_export.result c.args.state (SiteStands c.in-Ok.site) (SiteStands c.run_export.new.core) old new)
-    (ExportOutcome c.run_export.result c.args.state (λ s. s ≡ site) IsSound old new)
-    c.run_export.ensures.outcome
+    let new = g.O.Sink.given c.run_export-status.new.output in
+    weaker (g.I.Source.left c.args.input.now) (g.I.Source.left c.run_export-status.new.input)
+    (ExportOutcome c.run_export-status.result c.args.state (SiteStands c.in-Ok.site) (SiteStands c.run_export-status.new.core) old new)
+    (ExportOutcome c.run_export-status.result c.args.state (λ s. s ≡ site) IsSound old new)
+    c.run_export-status.ensures.outcome
     (λ a b o.
-    from_opening c.run_export.result c.args.state site (SiteStands c.in-Ok.site) (SiteStands c.run_export.new.core) old new a b
+    from_opening c.run_export-status.result c.args.state site (SiteStands c.in-Ok.site) (SiteStands c.run_export-status.new.core) old new a b
     (c.in-Ok.ensures.stands, opens c.args.limits c.args.own c.requires.limits c.requires.first c.requires.last) (λ t both. both.1) o)
 
 pub returns-in-Err-clause-outcome : goal.returns-in-Err-clause-outcome
