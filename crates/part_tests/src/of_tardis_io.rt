@@ -1,15 +1,13 @@
 ghost use Rattle.std.specs.Prelude.{◌≤◌, IfOk};
 
 use crate::streams::put;
+use memory_io::SteadySource;
 use std::alloc::Global;
 use std::io;
 use std::io::{Error, ErrorKind, Read, Write};
 use std::process::Abort;
 use tardis_base::StateId;
-use tardis_io::{
-    Failed, ReaderSource, Sink, Source, Status, StdIn, StdOut, SteadySource, WriteFault,
-    WriterSink, write_all,
-};
+use tardis_io::{Failed, ReaderSource, Sink, Source, Status, StdIn, StdOut, WriteFault, WriterSink, write_all};
 
 /// An input of these bytes that never fails.
 fn steady_source(rt: &impl Abort, alloc: Global, bytes: &[u8]) -> SteadySource {

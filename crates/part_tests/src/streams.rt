@@ -1,8 +1,8 @@
 //! Streams in memory, and bytes that are put behind others.
 
+use memory_io::{MemorySink, MemorySource};
 use std::alloc::Global;
 use std::process::Abort;
-use tardis_io::{MemorySink, MemorySource};
 
 /// An input of these bytes, of which at most so many are taken at once, and these takes fail.
 pub(crate) fn source_of(
