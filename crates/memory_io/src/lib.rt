@@ -1,4 +1,4 @@
-//! Sources, sinks, links, a gate and a dial in memory, for tests: they tell all, and some of their calls may fail.
+//! Sources, sinks, links, a gate and a dial in memory, for tests: which of their calls fail is told when they are made.
 #![tactic(auto)]
 
 mod counting;
