@@ -1,7 +1,7 @@
 -- A disk in memory: the record of its calls, and what it knows by it.
 use Rattle.std.specs.Prelude.{◌≡◌, ◌⊎◌, ℕ, ◌+◌, ◌<◌, ◌≤◌, List, [], ◌∷◌, ◌++◌, length, take, drop, replicate, ◌-◌, Bool, true, false, Result, Ok, Err}
 use Rattle.tardis_io.specs.declared.faults.Failed.{Failed}
-use Rattle.tardis_io.specs.Memory.{Plan, fails_next, after_call, after_fault}
+use Rattle.memory_io.specs.Memory.{Plan, fails_next, after_call, after_fault}
 use Rattle.disk_forms.specs.declared.histories.Kept.{Kept}
 use Rattle.disk_forms.specs.declared.histories.Kept.TheVariants.{Looked, Wrote, Tore, WroteBytewise, ToreBytewise, CutTo, MayCut, Synced, Replaced, MayReplace}
 use Rattle.disk_store.specs.Disks.{with_bytes, Torn, Bytewise, Shortened}

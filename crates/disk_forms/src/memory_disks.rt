@@ -2,7 +2,7 @@
 
 ghost use Rattle.std.specs.Prelude.{◌≡◌, ◌+◌, ◌≤◌, true, false, [], Ok, length, take, drop, IfOk, OnOk};
 ghost use Rattle.tardis_io.specs.Faults.{HasCause};
-ghost use Rattle.tardis_io.specs.Memory.{fresh_plan};
+ghost use Rattle.memory_io.specs.Memory.{fresh_plan};
 ghost use Rattle.disk_store.specs.Disks.{longest_disk, with_bytes, Torn, Bytewise, Shortened, Replaced, Follows, NoMore, Only};
 ghost use Rattle.disk_forms.specs.declared.histories.Kept.TheVariants.{Looked, Wrote, Tore, WroteBytewise, ToreBytewise, CutTo, MayCut, Synced};
 ghost use Rattle.disk_forms.specs.Memory.{fresh, known_of, IsImage, IsTorn, IsQuiet, Notes, NotesBytes, PlanAnswers};

@@ -1,13 +1,14 @@
 //! Which calls of a disk in memory fail, with a count of the faults that can be read.
 
 ghost use Rattle.std.specs.Prelude.{◌≡◌, ◌≤◌, true, false, IfOk, MatchResult};
-ghost use Rattle.tardis_io.specs.Memory.{fresh_plan, fails_next, after_call, after_fault};
+ghost use Rattle.memory_io.specs.Memory.{fresh_plan, fails_next, after_call, after_fault};
 ghost use Rattle.tardis_io.specs.Faults.{raised, Rose, HasCause};
 
+use memory_io::CallPlan;
 use std::alloc::Global;
 use std::marker::Model;
 use tardis_base::NoMemory;
-use tardis_io::{CallPlan, Failed};
+use tardis_io::Failed;
 
 /// The calls of a disk that are to fail, and how many faults were counted. It is seen as its plan.
 #[derive(Drop)]
@@ -18,7 +19,7 @@ pub struct DiskPlan {
 
 impl Model for DiskPlan {
     ghost use Rattle.std.specs.Prelude.{◌≡◌};
-    ghost use Rattle.tardis_io.specs.Memory.{Plan};
+    ghost use Rattle.memory_io.specs.Memory.{Plan};
 
     ghost Value = { Plan };
 

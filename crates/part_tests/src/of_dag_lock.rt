@@ -6,12 +6,12 @@ ghost use Rattle.dag_lock.specs.Steps.{Keeps};
 
 use crate::counters::Counter;
 use dag_lock::{DagLock, Pass};
+use memory_io::MemorySink;
 use std::alloc::Global;
 use std::process::Abort;
 use std::sync::Wait;
 use std::thread::{Threads, join};
 use tardis_base::ReplyBuf;
-use tardis_io::MemorySink;
 use trail_log::{Acted, Trailed};
 
 /// A lock over a machine that counts, whose trail may have so many bytes, and the pass with all its pieces.

@@ -1,25 +1,14 @@
 ghost use Rattle.std.specs.Prelude.{◌≤◌, IfOk};
 
-use crate::streams::put;
+use crate::streams::{put, takes};
 use std::alloc::Global;
 use std::io;
 use std::io::{Error, ErrorKind, Read, Write};
 use std::process::Abort;
 use tardis_base::StateId;
 use tardis_io::{
-    Failed, ReaderSource, Sink, Source, Status, StdIn, StdOut, SteadySource, WriteFault,
-    WriterSink, write_all,
+    Failed, ReaderSource, Sink, Source, Status, StdIn, StdOut, WriteFault, WriterSink, write_all,
 };
-
-/// An input of these bytes that never fails.
-fn steady_source(rt: &impl Abort, alloc: Global, bytes: &[u8]) -> SteadySource {
-    SteadySource::new(alloc, bytes).expect(rt, "room")
-}
-
-/// Whether a take into the buffer, which must have room, answers this.
-fn takes<S: Source>(source: &mut S, buf: &mut [u8], want: Result<usize, Failed>) -> bool {
-    !buf.is_empty() && source.take(buf) == want
-}
 
 /// Whether a give of these bytes, which must be some, answers this.
 fn gives<O: Sink>(sink: &mut O, bytes: &[u8], want: Result<usize, Failed>) -> bool {
@@ -65,16 +54,6 @@ fn numbers_and_lines_of_the_statuses(rt: HostRuntime) {
         assert!(rt; is_told(&rt, rt.alloc(), status, want), "status {number}");
         assert_eq!(rt; status.number(), number);
     }
-}
-
-#[test]
-fn a_steady_source_gives_all(rt: HostRuntime) {
-    let mut source = steady_source(&rt, rt.alloc(), b"abc");
-    let mut buf = [0u8; 2];
-    for want in [2, 1, 0] {
-        assert!(rt; takes(&mut source, &mut buf, Ok(want)));
-    }
-    drop(source);
 }
 
 /// A device that answers its calls in turn: an error, an interruption, nothing, and then each byte.

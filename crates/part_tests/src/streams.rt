@@ -1,8 +1,9 @@
-//! Streams in memory, and bytes that are put behind others.
+//! Streams in memory, what a take of one answers, and bytes that are put behind others.
 
+use memory_io::{MemorySink, MemorySource};
 use std::alloc::Global;
 use std::process::Abort;
-use tardis_io::{MemorySink, MemorySource};
+use tardis_io::{Failed, Source};
 
 /// An input of these bytes, of which at most so many are taken at once, and these takes fail.
 pub(crate) fn source_of(
@@ -25,6 +26,15 @@ pub(crate) fn sink_of(
     failing: &[u64],
 ) -> MemorySink {
     MemorySink::new(alloc, room, piece.max(1), failing).expect(rt, "room")
+}
+
+/// Whether a take into the buffer, which must have room, answers this.
+pub(crate) fn takes<S: Source>(
+    source: &mut S,
+    buf: &mut [u8],
+    want: Result<usize, Failed>,
+) -> bool {
+    !buf.is_empty() && source.take(buf) == want
 }
 
 /// Puts more bytes behind these.

@@ -1,9 +1,10 @@
 //! Devices in memory.
 
 use disk_forms::{MemoryDisk, MemoryStore};
+use memory_io::{MemoryDial, MemoryGate, MemoryLink, MemorySink, MemorySource};
 use std::alloc::Global;
 use std::process::Abort;
-use tardis_io::{Link, MemoryDial, MemoryGate, MemoryLink, MemorySink, MemorySource};
+use tardis_io::Link;
 
 /// The input, the output and the file of a program.
 #[derive(Drop)]

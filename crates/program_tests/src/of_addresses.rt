@@ -5,7 +5,8 @@ ghost use Rattle.std.specs.Prelude.{None};
 use crate::devices::no_peer;
 use crate::programs::comes_to;
 use crate::servers::serve;
-use tardis_io::{Failed, Gate, MemoryDial, MemoryLink, Status};
+use memory_io::{MemoryDial, MemoryLink};
+use tardis_io::{Failed, Gate, Status};
 
 /// A gate without links that knows whether it was bound to `unix:s`.
 #[derive(Drop)]

@@ -4,12 +4,13 @@ use crate::devices::{gate_of, link};
 use crate::programs::{Ran, run_line};
 use crate::servers::serve_clients;
 use crate::trails::{Part, part_of};
+use memory_io::{MemoryGate, MemoryLink};
 use std::alloc::Global;
 use std::process::Abort;
 use std::random::RandomSource;
 use std::sync::Wait;
 use std::thread::Threads;
-use tardis_io::{MemoryGate, MemoryLink, Status};
+use tardis_io::Status;
 
 /// A client that opens, begins, puts `1` to `x`, commits, begins, and gets `x`.
 const WRITER: &[u8] = b"\0\0\0\x02\x01\0\

@@ -3,12 +3,13 @@
 use crate::devices::{dial_of, link, nobody};
 use crate::programs::{Ran, comes_to, run_line};
 use crate::servers::serve;
+use memory_io::{MemoryDial, MemoryLink};
 use std::alloc::Global;
 use std::process::Abort;
 use std::random::RandomSource;
 use std::sync::Wait;
 use std::thread::Threads;
-use tardis_io::{MemoryDial, MemoryLink, Status};
+use tardis_io::Status;
 
 /// A line of words, what the peer sends, the trail, and what a run over the trail replies.
 type Row = (&'static str, &'static [u8], &'static [u8], &'static [u8]);

@@ -4,13 +4,14 @@ ghost use Rattle.std.specs.Prelude.{◌≡◌, ℕ, None, true, refl};
 
 use crate::devices::{gate_of, link};
 use crate::servers::serve_clients;
+use memory_io::{MemoryGate, MemoryLink};
 use std::alloc::Global;
 use std::process::Abort;
 use std::random::RandomSource;
 use std::sync::Wait;
 use std::sync::atomic::{AtomicU64, Ordering};
 use std::thread::Threads;
-use tardis_io::{Duplex, Failed, Link, MemoryGate, MemoryLink, Sink, Status};
+use tardis_io::{Duplex, Failed, Link, Sink, Status};
 
 /// A client that opens and begins. It sends its second request only once the other client was given so many replies.
 #[derive(Drop)]

@@ -7,12 +7,12 @@ ghost use Rattle.session_core.specs.Machine.{SiteStands, opened_with};
 ghost use Rattle.dag_lock.specs.Named.{lock_id, pieces_of, start_of};
 
 use dag_lock::{DagLock, Pass};
+use memory_io::MemorySink;
 use session_core::SiteCore;
 use std::alloc::Global;
 use std::hash::RandomState;
 use std::process::Abort;
 use tardis_base::Limits;
-use tardis_io::MemorySink;
 use trail_log::Trailed;
 
 /// Site 1 of a place with these limits, which opens.

@@ -7,11 +7,12 @@ use crate::auto_rows::{
 use crate::lines::Lines;
 use crate::sites::{LIMITS, an_input, an_output, keys};
 use auto_run::auto;
+use memory_io::{MemorySink, MemorySource};
 use rule_list::{RuleList, read_rules};
 use std::alloc::Global;
 use std::hash::RandomState;
 use std::process::Abort;
-use tardis_io::{MemorySink, MemorySource, Status};
+use tardis_io::Status;
 
 /// The lines of these tables.
 fn lines_of(rt: &impl Abort, alloc: Global, tables: &[&str]) -> Lines {

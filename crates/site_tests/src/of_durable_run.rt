@@ -10,11 +10,12 @@ use crate::sites::{LIMITS, an_input, an_output, keys};
 use disk_forms::MemoryDisk;
 use disk_store::{Disk, Store};
 use durable_run::{durable, run_site_on};
+use memory_io::{MemorySink, MemorySource};
 use std::alloc::Global;
 use std::process::Abort;
 use std::random::RandomSource;
 use tardis_base::Limits;
-use tardis_io::{MemorySink, MemorySource, Sink, Source, Status};
+use tardis_io::{Sink, Source, Status};
 
 /// How a durable site with these limits ends, in this store.
 fn ran<R: RandomSource + Abort, S: Store, I: Source, O: Sink>(

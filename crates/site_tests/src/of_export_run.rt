@@ -4,11 +4,12 @@ use crate::sites::{LIMITS, an_input, an_output, keys};
 use crate::talks::{bytes_of, copied, put, put_frame};
 use branch_export::run_import;
 use export_run::export;
+use memory_io::{MemorySink, MemorySource};
 use std::alloc::Global;
 use std::hash::RandomState;
 use std::process::Abort;
 use tardis_base::StateId;
-use tardis_io::{MemorySink, MemorySource, Status};
+use tardis_io::Status;
 
 /// Session 1 puts x and commits.
 const ONE_KEY: &str = "00010101 00010200 0001040178000131 000106000000";

@@ -15,11 +15,11 @@ use command_words::DaemonPlan;
 use disk_forms::{MemoryDisk, MemoryStore};
 use disk_store::Store;
 use hub::{Connection, Ports, Ready};
+use memory_io::MemorySink;
 use site_peers::{Failure, Peer};
 use std::alloc::Global;
 use std::process::Abort;
 use std::random::RandomSource;
-use tardis_io::MemorySink;
 use tardisd_main::{
     CheckedLog, DaemonEnd, Doors, FileCheck, FileFault, FoundSite, GateFault, tardisd,
 };

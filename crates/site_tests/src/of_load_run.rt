@@ -1,9 +1,10 @@
 use crate::sites::{an_output, keys};
 use load_run::run_load;
+use memory_io::MemorySink;
 use std::alloc::Global;
 use std::hash::RandomState;
 use std::process::Abort;
-use tardis_io::{MemorySink, Status};
+use tardis_io::Status;
 
 /// Numbers, and the line of a load. The lines are those of a model of the rules that was written apart from this program, in
 /// another language.

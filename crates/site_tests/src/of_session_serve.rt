@@ -7,6 +7,7 @@ ghost use Rattle.dag_lock.specs.Steps.{Keeps};
 use crate::locks::{entries, locked};
 use crate::sites::{LIMITS, an_input, an_output, keys};
 use dag_lock::{DagLock, Pass};
+use memory_io::MemoryLink;
 use session_core::SiteCore;
 use session_serve::{SessionEnd, serve_session};
 use std::alloc::Global;
@@ -14,7 +15,6 @@ use std::process::Abort;
 use std::random::RandomSource;
 use std::sync::Wait;
 use tardis_base::Limits;
-use tardis_io::MemoryLink;
 
 /// The most bytes of the trail, what a link sends, what it is given, the word of the session's end, and the trail.
 type Row = (

@@ -14,12 +14,13 @@ use crate::rows::{
     RIPPLE, SECOND_SESSION, SER_FORKS, SI_PASSES, SKEWED,
 };
 use crate::sites::{LIMITS, an_input, an_output, keys};
+use memory_io::{MemorySink, MemorySource};
 use site_commands::shell;
 use std::alloc::Global;
 use std::hash::RandomState;
 use std::process::Abort;
 use tardis_base::Limits;
-use tardis_io::{MemorySink, MemorySource, Status};
+use tardis_io::Status;
 
 /// How the shell of a site with these limits ends over these streams.
 fn ends(

@@ -12,6 +12,7 @@ use crate::locks::{entries, locked};
 use crate::of_exchange::TWO_SITES;
 use crate::sites::{an_input, keys};
 use dag_lock::{DagLock, Pass};
+use memory_io::{MemoryDial, MemoryLink, MemorySink};
 use session_core::SiteCore;
 use site_commands::sites_tell_counts;
 use site_sync::{SyncEnd, sync_round};
@@ -20,7 +21,6 @@ use std::process::Abort;
 use std::random::RandomSource;
 use std::sync::Wait;
 use tardis_base::Limits;
-use tardis_io::{MemoryDial, MemoryLink, MemorySink};
 
 /// A batch of state 2.1, which puts `1` to `a`.
 const BATCH: &[u8] = b"\0\0\0\x18\x10\0\x01\0\x02\0\0\0\x01\x01\0\0\0\0\0\0\x01\x01a\x01\0\x011\0";

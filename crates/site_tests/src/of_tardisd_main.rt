@@ -3,11 +3,11 @@ use crate::sites::keys;
 use crate::talks::bytes_of;
 use command_words::{Capacity, DaemonPlan, DoorKind, DoorPlan, Place};
 use hub::{End, MemoryPorts, Move, Seen};
+use memory_io::MemorySink;
 use std::alloc::Global;
 use std::process::Abort;
 use std::random::RandomSource;
 use tardis_base::{ByteList, NoMemory};
-use tardis_io::MemorySink;
 use tardisd_main::{
     DaemonEnd, Doors, FileFault, FoundSite, GateFault, plan_of, serve_place, tardisd,
 };

@@ -1,10 +1,11 @@
 use crate::sites::{an_input, an_output, keys};
 use crate::talks::{bytes_of, put_frame};
 use crate::world_rows::{HALF_LOST, NOT_THERE, SHARED_CART};
+use memory_io::{MemorySink, MemorySource};
 use std::alloc::Global;
 use std::hash::RandomState;
 use std::process::Abort;
-use tardis_io::{MemorySink, MemorySource, Status};
+use tardis_io::Status;
 use world_core::run_world;
 
 /// Puts the frame of the body behind these that these hexadecimal digits spell.

@@ -1,13 +1,14 @@
 //! A site over streams in memory.
 
 use crate::talks::Talk;
+use memory_io::{MemorySink, MemorySource};
 use site_commands::run;
 use std::alloc::Global;
 use std::hash::RandomState;
 use std::process::Abort;
 use std::random::RandomSource;
 use tardis_base::Limits;
-use tardis_io::{MemorySink, MemorySource, Status};
+use tardis_io::Status;
 
 /// The limits of the program's site, where it is alone.
 pub(crate) const LIMITS: Limits = Limits {

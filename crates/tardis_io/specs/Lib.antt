@@ -3,5 +3,4 @@ pub mod Faults
 pub mod Told
 pub mod Moments
 pub mod Statuses
-pub mod Memory
 pub mod Links

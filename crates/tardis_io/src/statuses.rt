@@ -55,24 +55,34 @@ impl Status {
             Status::NoState { .. } => 12,
         }
     }
+
+    /// Its text, up to the number or the state that ends it.
+    fn text(self) -> &'static str {
+        match self {
+            Status::Ok => "",
+            Status::Usage => "usage: tardis COMMAND OPTIONS",
+            Status::ReadFault => "tardis: read fault",
+            Status::WriteFault => "tardis: write fault",
+            Status::Cut => "tardis: input ends inside a frame",
+            Status::LongFrame { .. } => "tardis: frame too long: ",
+            Status::NoMemory => "tardis: out of memory",
+            Status::GateFault => "tardis: gate fault",
+            Status::DialFault => "tardis: dial fault",
+            Status::Spent => "tardis: input too large",
+            Status::DiskFault => "tardis: disk fault",
+            Status::BadExport => "tardis: not an export",
+            Status::NoState { .. } => "tardis: no such state ",
+        }
+    }
 }
 
 impl fmt::Display for Status {
     fn fmt<W: fmt::Write>(&self, f: &mut fmt::Formatter<W>) -> fmt::Result {
+        f.write_str(self.text())?;
         match self {
-            Status::Ok => Ok(()),
-            Status::Usage => write!(f, "usage: tardis COMMAND OPTIONS"),
-            Status::ReadFault => write!(f, "tardis: read fault"),
-            Status::WriteFault => write!(f, "tardis: write fault"),
-            Status::Cut => write!(f, "tardis: input ends inside a frame"),
-            Status::LongFrame { len } => write!(f, "tardis: frame too long: {len}"),
-            Status::NoMemory => write!(f, "tardis: out of memory"),
-            Status::GateFault => write!(f, "tardis: gate fault"),
-            Status::DialFault => write!(f, "tardis: dial fault"),
-            Status::Spent => write!(f, "tardis: input too large"),
-            Status::DiskFault => write!(f, "tardis: disk fault"),
-            Status::BadExport => write!(f, "tardis: not an export"),
-            Status::NoState { state } => write!(f, "tardis: no such state {state}"),
+            Status::LongFrame { len } => write!(f, "{len}"),
+            Status::NoState { state } => write!(f, "{state}"),
+            _ => Ok(()),
         }
     }
 }

@@ -1,16 +1,15 @@
 //! A sink in memory, of which some calls may fail.
 
 ghost use Rattle.std.specs.Prelude.{◌≡◌, ◌<◌, ◌≤◌, Some, [], length, IfOk};
-ghost use Rattle.tardis_io.specs.Memory.{MemoryGives, fresh_plan};
+ghost use Rattle.memory_io.specs.Memory.{MemoryGives, fresh_plan};
 ghost use Rattle.tardis_io.specs.Told.{WhileTold, Gives};
 ghost use Rattle.tardis_io.specs.Faults.{HasCause};
 
-use crate::faults::Failed;
 use crate::plans::CallPlan;
-use crate::streams::Sink;
 use std::alloc::Global;
 use std::marker::Model;
 use tardis_base::NoMemory;
+use tardis_io::{Failed, Sink};
 
 /// A sink over room in memory that it took when it was made. It tells what was given.
 #[derive(Drop)]
@@ -23,7 +22,7 @@ pub struct MemorySink {
 
 impl Model for MemorySink {
     ghost use Rattle.std.specs.Prelude.{length, ◌+◌, ◌≤◌, vec_capacity};
-    ghost use Rattle.tardis_io.specs.Memory.{Output};
+    ghost use Rattle.memory_io.specs.Memory.{Output};
 
     ghost Value = { Output };
 

@@ -1,7 +1,7 @@
 use Rattle.std.proofs.Common.{◌≡◌, ◌<◌, ◌+◌, ℕ, [], ◌++◌, take, drop, subst, arith}
-use Rattle.tardis_io.specs.Memory.{Input}
-use Rattle.tardis_io.proofs.Fronts.{moved_under}
-use Rattle.tardis_io.proofs.sources.MemorySourceSource.take.Goals as goal
+use Rattle.memory_io.specs.Memory.{Input}
+use Rattle.memory_io.proofs.Fronts.{moved_under}
+use Rattle.memory_io.proofs.sources.MemorySourceSource.take.Goals as goal
 
 pub returns-clause-bytes : goal.returns-clause-bytes
 returns-clause-bytes c =

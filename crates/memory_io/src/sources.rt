@@ -1,17 +1,16 @@
 //! A source in memory, of which some calls may fail.
 
 ghost use Rattle.std.specs.Prelude.{◌≡◌, ◌<◌, ◌≤◌, Some, length, IfOk};
-ghost use Rattle.tardis_io.specs.Memory.{MemoryTakes, fresh_plan};
+ghost use Rattle.memory_io.specs.Memory.{MemoryTakes, fresh_plan};
 ghost use Rattle.tardis_io.specs.Told.{WhileTold, Takes};
 ghost use Rattle.tardis_io.specs.Faults.{HasCause};
 
-use crate::faults::Failed;
 use crate::moves::move_front;
 use crate::plans::CallPlan;
-use crate::streams::Source;
 use std::alloc::Global;
 use std::marker::Model;
 use tardis_base::NoMemory;
+use tardis_io::{Failed, Source};
 
 /// A source over bytes in memory. It tells what is left.
 #[derive(Drop)]
@@ -24,7 +23,7 @@ pub struct MemorySource {
 
 impl Model for MemorySource {
     ghost use Rattle.std.specs.Prelude.{length, drop, ◌≤◌};
-    ghost use Rattle.tardis_io.specs.Memory.{Input};
+    ghost use Rattle.memory_io.specs.Memory.{Input};
 
     ghost Value = { Input };
 

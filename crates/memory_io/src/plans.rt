@@ -1,13 +1,13 @@
 //! Which calls of an object in memory fail.
 
 ghost use Rattle.std.specs.Prelude.{◌≡◌, ◌≤◌, true, false, IfOk, MatchResult};
-ghost use Rattle.tardis_io.specs.Memory.{fresh_plan, fails_next, after_call, after_fault};
+ghost use Rattle.memory_io.specs.Memory.{fresh_plan, fails_next, after_call, after_fault};
 ghost use Rattle.tardis_io.specs.Faults.{raised, Rose, HasCause};
 
-use crate::faults::Failed;
 use std::alloc::Global;
 use std::marker::Model;
 use tardis_base::NoMemory;
+use tardis_io::Failed;
 
 /// The calls that are to fail, counted from 1, with the number of calls so far and of the faults among them. Both
 /// numbers stand still at the end of their type.
@@ -19,7 +19,7 @@ pub struct CallPlan {
 }
 
 impl Model for CallPlan {
-    ghost use Rattle.tardis_io.specs.Memory.{Plan};
+    ghost use Rattle.memory_io.specs.Memory.{Plan};
 
     ghost Value = { Plan };
 

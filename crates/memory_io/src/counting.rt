@@ -4,8 +4,7 @@ ghost use Rattle.std.specs.Prelude.{◌≡◌, ◌+◌, ◌<◌, ◌≤◌, None
 ghost use Rattle.tardis_io.specs.Told.{WhileTold, Gives};
 ghost use Rattle.tardis_io.specs.Faults.{HasCause};
 
-use crate::faults::Failed;
-use crate::streams::Sink;
+use tardis_io::{Failed, Sink};
 
 /// A sink that never fails and tells only how many bytes it was given. The count stands still at its end.
 #[derive(Clone, Copy, PartialEq, Eq)]

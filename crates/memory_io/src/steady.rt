@@ -4,12 +4,11 @@ ghost use Rattle.std.specs.Prelude.{◌≡◌, ◌++◌, ◌<◌, ◌≤◌, Som
 ghost use Rattle.tardis_io.specs.Told.{WhileTold, Takes};
 ghost use Rattle.tardis_io.specs.Faults.{HasCause};
 
-use crate::faults::Failed;
 use crate::moves::move_front;
-use crate::streams::Source;
 use std::alloc::Global;
 use std::marker::Model;
 use tardis_base::NoMemory;
+use tardis_io::{Failed, Source};
 
 /// A source over bytes in memory whose takes never fail. It is seen as what is left.
 #[derive(Drop)]

@@ -1,6 +1,6 @@
 use Rattle.std.proofs.Common.{◌≡◌, ◌+◌, ℕ, List, [], ◌++◌, length, take, drop, subst}
-use Rattle.tardis_io.proofs.Fronts.{moved_under}
-use Rattle.tardis_io.proofs.steady.SteadySourceSource.take.Goals as goal
+use Rattle.memory_io.proofs.Fronts.{moved_under}
+use Rattle.memory_io.proofs.steady.SteadySourceSource.take.Goals as goal
 
 pub returns-clause-bytes : goal.returns-clause-bytes
 returns-clause-bytes c =

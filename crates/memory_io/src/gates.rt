@@ -3,16 +3,15 @@
 ghost use Rattle.std.specs.Prelude.{◌≡◌, ◌≤◌, [], Some, true, false, map, option_map, IfOk, OnOk};
 ghost use Rattle.std.specs.String.{string_bytes};
 ghost use Rattle.tardis_io.specs.Faults.{HasCause};
-ghost use Rattle.tardis_io.specs.Links.{HandsNext, HandsCalled, AsksFor, IsOut, IsCalled, with_back, with_hung, MemoryAnswers, MemoryCalls};
-ghost use Rattle.tardis_io.specs.Memory.{fresh_plan};
+ghost use Rattle.tardis_io.specs.Links.{HandsNext, HandsCalled, AsksFor, IsOut, IsCalled, with_back, with_hung};
+ghost use Rattle.memory_io.specs.Links.{MemoryAnswers, MemoryCalls};
+ghost use Rattle.memory_io.specs.Memory.{fresh_plan};
 
-use crate::faults::Failed;
-use crate::gates::{Dial, Gate};
-use crate::links::Link;
 use crate::plans::CallPlan;
 use std::alloc::Global;
 use std::marker::Model;
 use tardis_base::NoMemory;
+use tardis_io::{Dial, Failed, Gate, Link};
 
 /// A gate that hands out its links in order and then none. It tells them.
 #[derive(Drop)]
@@ -45,7 +44,7 @@ struct Asked {
 impl Model for Asked {
     ghost use Rattle.std.specs.Prelude.{ℕ, List, Option, map};
     ghost use Rattle.std.specs.String.{string_bytes};
-    ghost use Rattle.tardis_io.specs.Links.{told_addresses};
+    ghost use Rattle.memory_io.specs.Links.{told_addresses};
 
     ghost Value = { Option (List (List ℕ)) };
 
@@ -92,7 +91,7 @@ impl Asked {
 
 impl<L> Model for MemoryGate<L> {
     ghost use Rattle.std.specs.Prelude.{length, ◌+◌, ◌^◌, ◌<◌, ◌≤◌, vec_capacity};
-    ghost use Rattle.tardis_io.specs.Links.{KeptGate};
+    ghost use Rattle.memory_io.specs.Links.{KeptGate};
 
     ghost Value = { KeptGate L };
 
@@ -104,7 +103,7 @@ impl<L> Model for MemoryGate<L> {
 
 impl<L> Model for MemoryDial<L> {
     ghost use Rattle.std.specs.Prelude.{length, ◌+◌, ◌^◌, ◌<◌, ◌≤◌, vec_capacity};
-    ghost use Rattle.tardis_io.specs.Links.{KeptDial};
+    ghost use Rattle.memory_io.specs.Links.{KeptDial};
 
     ghost Value = { KeptDial L };
 
