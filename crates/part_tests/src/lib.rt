@@ -19,6 +19,8 @@ mod of_log_groups;
 #[cfg(test)]
 mod of_log_text;
 #[cfg(test)]
+mod of_memory_disks;
+#[cfg(test)]
 mod of_memory_io;
 #[cfg(test)]
 mod of_shell_text;

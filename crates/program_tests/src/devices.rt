@@ -1,6 +1,6 @@
 //! Devices in memory.
 
-use disk_forms::{MemoryDisk, MemoryStore};
+use memory_disks::{MemoryDisk, MemoryStore};
 use memory_io::{MemoryDial, MemoryGate, MemoryLink, MemorySink, MemorySource};
 use std::alloc::Global;
 use std::process::Abort;

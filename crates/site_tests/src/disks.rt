@@ -1,6 +1,6 @@
 //! Disks in memory, and what a crash leaves of them.
 
-use disk_forms::{MemoryDisk, MemoryStore};
+use memory_disks::{MemoryDisk, MemoryStore};
 use std::alloc::Global;
 use std::process::Abort;
 

@@ -3,8 +3,8 @@
 ghost use Rattle.std.specs.Prelude.{◌≡◌, ◌+◌, ◌%◌, [], ◌∷◌, ℕ, false};
 
 use crate::disks::{crashed, disk_of, holds};
-use disk_forms::MemoryDisk;
 use disk_store::Disk;
+use memory_disks::MemoryDisk;
 use site_journal::{OpenEnd, open_on};
 use std::alloc::Global;
 use std::process::Abort;
