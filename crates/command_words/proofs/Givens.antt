@@ -1,11 +1,9 @@
 -- The values of an option, one after another.
-use Rattle.std.proofs.Common.{ℕ, ◌<◌, true, false, List, [], ◌∷◌, ◌++◌, length, map, Option, Some, None, option_map, ◌≡◌, ◌∙◌, refl, sym, ap, arith, append_assoc}
+use Rattle.std.proofs.Common.{ℕ, ◌<◌, true, false, List, [], ◌∷◌, ◌++◌, length, map, Option, Some, None, ◌≡◌, ◌∙◌, refl, sym, ap, arith, append_assoc}
 use Rattle.std.specs.Prelude.{bytes_eq, filter}
 use Rattle.std.proofs.lemmas.Bool.{cond-true, cond-false}
 use Rattle.command_words.specs.Settings.{Setting, values}
-use Rattle.command_words.specs.Values.{needed, number_or, number_or_none, flag, address, address_or_none, once}
-use Rattle.command_words.specs.Sockets.{mode_or}
-use Rattle.command_words.specs.Ruling.{rules_or_none}
+use Rattle.command_words.specs.Values.{needed, number_or, flag, address, once}
 use Rattle.command_words.specs.Given.{IsGiven}
 use Rattle.command_words.specs.declared.settings.Given.{Given}
 
@@ -48,16 +46,6 @@ pub number_twice : (default least most : ℕ) (found : List (Option (List ℕ)))
 number_twice default least most [] two = absurd (omega (arith, two))
 number_twice default least most (v ∷ more) two = needed_twice least most (v ∷ more) two
 
-pub number_or_none_twice : (least most : ℕ) (found : List (Option (List ℕ))) → 1 < length found → None ≡ number_or_none least most found
-number_or_none_twice least most [] two = absurd (omega (arith, two))
-number_or_none_twice least most (v ∷ more) two = ap (option_map (λ (n : ℕ). Some n)) (needed_twice least most (v ∷ more) two)
-
-pub mode_twice : (default : ℕ) (found : List (Option (List ℕ))) → 1 < length found → None ≡ mode_or default found
-mode_twice default [] two = absurd (omega (arith, two))
-mode_twice default (v ∷ []) two = absurd (omega (arith, two))
-mode_twice default (None ∷ w ∷ more) two = refl
-mode_twice default (Some v ∷ w ∷ more) two = refl
-
 pub flag_twice : (found : List (Option (List ℕ))) → 1 < length found → None ≡ flag found
 flag_twice [] two = absurd (omega (arith, two))
 flag_twice (v ∷ []) two = absurd (omega (arith, two))
@@ -69,16 +57,6 @@ address_twice [] two = absurd (omega (arith, two))
 address_twice (v ∷ []) two = absurd (omega (arith, two))
 address_twice (None ∷ w ∷ more) two = refl
 address_twice (Some v ∷ w ∷ more) two = refl
-
-pub address_or_none_twice : (found : List (Option (List ℕ))) → 1 < length found → None ≡ address_or_none found
-address_or_none_twice [] two = absurd (omega (arith, two))
-address_or_none_twice (v ∷ more) two = ap (option_map (λ word. Some word)) (address_twice (v ∷ more) two)
-
-pub rules_or_none_twice : (found : List (Option (List ℕ))) → 1 < length found → None ≡ rules_or_none found
-rules_or_none_twice [] two = absurd (omega (arith, two))
-rules_or_none_twice (v ∷ []) two = absurd (omega (arith, two))
-rules_or_none_twice (None ∷ w ∷ more) two = refl
-rules_or_none_twice (Some v ∷ w ∷ more) two = refl
 
 pub once_twice : (found : List (Option (List ℕ))) → 1 < length found → None ≡ once found
 once_twice [] two = absurd (omega (arith, two))

@@ -2,7 +2,6 @@
 pub mod Lists
 pub mod Numerals
 pub mod Readings
-pub mod Modes
 pub mod Givens
 pub mod Runs
 pub mod Copies

@@ -106,7 +106,7 @@ needed_within least most (Some word ∷ []) n e = number_within least most word 
 needed_within least most (None ∷ w ∷ more) n e = absurd (none_some n e)
 needed_within least most (Some v ∷ w ∷ more) n e = absurd (none_some n e)
 
-pub fewer : (found : List (Option (List ℕ))) → length (filter_map (λ v. v) found) ≤ length found
+fewer : (found : List (Option (List ℕ))) → length (filter_map (λ v. v) found) ≤ length found
 fewer [] = omega arith
 fewer (None ∷ found) = omega (arith, fewer found)
 fewer (Some word ∷ found) = omega (arith, fewer found)

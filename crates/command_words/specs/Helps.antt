@@ -1,5 +1,5 @@
 -- The words that ask for help.
-use Rattle.std.specs.Prelude.{◌≡◌, ◌⊎◌, ℕ, List, [], ◌∷◌, codes}
+use Rattle.std.specs.Prelude.{◌≡◌, ℕ, List, [], ◌∷◌, codes}
 
 -- the bytes of the words are those of the one word `--help`
 abbrev pub AskUsage : List (List ℕ) → Type 0
@@ -8,7 +8,3 @@ AskUsage words = words ≡ codes "--help" ∷ []
 -- the bytes of the words are those of the one word `--version`
 abbrev pub AskVersion : List (List ℕ) → Type 0
 AskVersion words = words ≡ codes "--version" ∷ []
-
--- the bytes of the words are those of one word by which `tardisd` is asked how it is used: `--help`, `-h` or `help`
-abbrev pub AskDaemonUsage : List (List ℕ) → Type 0
-AskDaemonUsage words = AskUsage words ⊎ (words ≡ codes "-h" ∷ []) ⊎ (words ≡ codes "help" ∷ [])

@@ -8,12 +8,5 @@ pub mod Splits
 pub mod Servings
 pub mod Places
 pub mod Laws
-pub mod Doors
-pub mod Sockets
-pub mod Fetching
-pub mod Capacity
-pub mod Ruling
-pub mod Daemons
 pub mod Readings
 pub mod Helps
-pub mod Checks

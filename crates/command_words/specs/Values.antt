@@ -1,6 +1,6 @@
 -- The values of options.
-use Rattle.std.specs.Prelude.{ℕ, Bool, true, false, ◌==◌, ◌&&◌, ◌||◌, not, length, List, [], ◌∷◌, Option, None, Some, nat_le, nat_lt, nat_eq, filter_map}
-use Rattle.std.specs.Prelude.{option_and_then, option_map, if◌then◌else◌, slice_index}
+use Rattle.std.specs.Prelude.{ℕ, Bool, true, false, ◌==◌, ◌&&◌, not, length, List, [], ◌∷◌, Option, None, Some, nat_le, nat_lt, nat_eq, filter_map}
+use Rattle.std.specs.Prelude.{option_and_then, if◌then◌else◌, slice_index}
 use Rattle.std.specs.Bool.{then_some}
 use Rattle.std.specs.List.{list_all, before_first, after_first}
 use Rattle.std.specs.Str.Parse.{digits_value}
@@ -30,15 +30,6 @@ abbrev pub number_or : ℕ → ℕ → ℕ → List (Option (List ℕ)) → Opti
 number_or default least most [] = Some default
 number_or default least most (value ∷ more) = needed least most (value ∷ more)
 
--- the number of an option that may be left out, where there is one
-abbrev pub number_or_none : ℕ → ℕ → List (Option (List ℕ)) → Option (Option ℕ)
-number_or_none least most [] = Some None
-number_or_none least most (value ∷ more) = option_map (λ n. Some n) (needed least most (value ∷ more))
-
--- an option that speaks of something stands only where that is there
-abbrev pub may_stand : Bool → List (Option (List ℕ)) → Bool
-may_stand there found = there || (length found == 0)
-
 -- whether the option without a value is there, at most once
 abbrev pub flag : List (Option (List ℕ)) → Option Bool
 flag [] = Some false
@@ -57,11 +48,6 @@ is_address word = is_within 1 200 (length word) && not (nat_eq (slice_index word
 abbrev pub address : List (Option (List ℕ)) → Option (List ℕ)
 address (Some word ∷ []) = if is_address word then Some word else None
 address _ = None
-
--- the address of an option that may be left out
-abbrev pub address_or_none : List (Option (List ℕ)) → Option (Option (List ℕ))
-address_or_none [] = Some None
-address_or_none (value ∷ more) = option_map (λ word. Some word) (address (value ∷ more))
 
 abbrev pub is_some_address : Option (List ℕ) → Bool
 is_some_address None = false

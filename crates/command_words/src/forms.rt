@@ -4,7 +4,7 @@ ghost use Rattle.std.specs.Prelude.{◌≡◌, ◌<◌, ◌≤◌, ℕ, List, Op
 ghost use Rattle.command_words.specs.Servings.{serving_by};
 ghost use Rattle.std.specs.String.{string_bytes};
 ghost use Rattle.command_words.specs.Settings.{settings, values};
-ghost use Rattle.command_words.specs.Values.{needed, number_or, number_or_none, may_stand, flag, address, address_or_none, addresses};
+ghost use Rattle.command_words.specs.Values.{needed, number_or, flag, address, addresses};
 ghost use Rattle.command_words.specs.Forms.{place_alone, place, world, serving, serving_at, load, Serving, AsLoad};
 ghost use Rattle.command_words.specs.Commands.{serving_of};
 ghost use Rattle.command_words.specs.Places.{IsPlace};
@@ -12,7 +12,7 @@ ghost use Rattle.tardis_base.specs.Sizes.{most_sites};
 
 use crate::commands::{Place, ServePlan, WordsFault};
 use crate::numbers::{is_address, read_number};
-use crate::peers::{are_addresses, copies_of, count_of};
+use crate::peers::{are_addresses, copies_of};
 use crate::settings::{Given, are_only, how_given};
 use std::alloc::Global;
 use tardis_base::{MAX_SITES, NoMemory};
@@ -31,8 +31,9 @@ fn read_needed(words: &[String], name: &str, least: u32, most: u32) -> Option<u3
     }
 }
 
-/// The number of an option that may be left out.
-pub(crate) fn read_number_or(
+/// The number of an option that may be left out: the default then, and nothing where it is given twice, without a number or with one out of
+/// its range.
+pub fn read_number_or(
     words: &[String],
     name: &str,
     default: u32,
@@ -53,35 +54,8 @@ pub(crate) fn read_number_or(
     }
 }
 
-/// The number of an option that may be left out, where there is one.
-pub(crate) fn read_number_or_none(
-    words: &[String],
-    name: &str,
-    least: u32,
-    most: u32,
-) -> Option<Option<u32>>
-    ensures { result ≡ number_or_none least most (values name.now (settings (map (λ w. string_bytes w) words.now))) }
-{
-    match how_given(words, name) {
-        Given::Absent => Some(None),
-        Given::Value(word) => match read_number(word, least, most) {
-            Some(number) => Some(Some(number)),
-            None => None,
-        },
-        Given::Bare => None,
-        Given::Twice => None,
-    }
-}
-
-/// Whether an option may stand that speaks of something which is there or isn't.
-pub(crate) fn may_stand(words: &[String], name: &str, there: bool) -> bool
-    ensures { result ≡ may_stand there (values name.now (settings (map (λ w. string_bytes w) words.now))) }
-{
-    there || count_of(words, name) == 0
-}
-
 /// Whether `--tidy` is there, unless it is more than once.
-pub(crate) fn read_tidy(words: &[String]) -> Option<bool>
+pub fn read_tidy(words: &[String]) -> Option<bool>
     ensures { result ≡ flag (values (codes "--tidy") (settings (map (λ w. string_bytes w) words.now))) }
 {
     match how_given(words, "--tidy") {
@@ -104,27 +78,8 @@ pub(crate) fn read_address<'a>(words: &'a [String], name: &str) -> Option<&'a st
     }
 }
 
-/// The address of an option that may be left out.
-pub(crate) fn read_address_or_none<'a>(words: &'a [String], name: &str) -> Option<Option<&'a str>>
-    ensures { option_map (λ found. option_map (λ word. word.now) found) result
-        ≡ address_or_none (values name.now (settings (map (λ w. string_bytes w) words.now))) }
-{
-    match how_given(words, name) {
-        Given::Absent => Some(None),
-        Given::Value(word) => {
-            if is_address(word) {
-                Some(Some(word))
-            } else {
-                None
-            }
-        }
-        Given::Bare => None,
-        Given::Twice => None,
-    }
-}
-
-/// `--sites M` and `--site N`.
-pub(crate) fn read_place(words: &[String]) -> Option<Place>
+/// `--sites M` and `--site N`, each 1 where it is left out; the other options aren't looked at.
+pub fn read_place(words: &[String]) -> Option<Place>
     ensures form { result ≡ place (settings (map (λ w. string_bytes w) words.now)) }
     ensures place { IfSome result (λ p. IsPlace p) }
 {

@@ -4,7 +4,7 @@ ghost use Rattle.std.specs.Prelude.{◌≡◌, ◌≤◌, IfSome};
 ghost use Rattle.command_words.specs.Values.{number, plain_number, are_digits, is_numeral, is_address, are_printed};
 
 /// The number of 1 to 10 digits that a word is, where it is one of these and those between.
-pub(crate) fn read_number(word: &str, least: u32, most: u32) -> Option<u32>
+pub fn read_number(word: &str, least: u32, most: u32) -> Option<u32>
     ensures number { result ≡ number least most word.now }
     ensures from { IfSome result (λ n. least ≤ n) }
     ensures to { IfSome result (λ n. n ≤ most) }
@@ -49,7 +49,7 @@ fn are_digits(bytes: &[u8]) -> bool
 }
 
 /// Whether a word is an address: 1 to 200 printed ASCII bytes, of which the first isn't `-`.
-pub(crate) fn is_address(word: &str) -> bool
+pub fn is_address(word: &str) -> bool
     ensures { result ≡ is_address word.now }
 {
     let bytes = word.as_bytes();

@@ -18,8 +18,8 @@ pub(crate) fn are_addresses(words: &[String], name: &str, most: usize) -> bool
     count_of(words, name) <= most && have_addresses(words, name)
 }
 
-/// How often the option of this name is given.
-pub(crate) fn count_of(words: &[String], name: &str) -> usize
+/// How often the option of this name is given. The time is in proportion to how many words there are.
+pub fn count_of(words: &[String], name: &str) -> usize
     ensures { result ≡ length (values name.now (settings (map (λ w. string_bytes w) words.now))) }
 {
     let mut count = 0;

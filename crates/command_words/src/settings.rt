@@ -12,15 +12,15 @@ use tardis_base::NoMemory;
 
 /// The first option, and the words behind it.
 #[derive(Clone, Copy)]
-pub(crate) struct Split<'a> {
-    pub(crate) name: &'a str,
-    pub(crate) value: Option<&'a str>,
-    pub(crate) rest: &'a [String],
+pub struct Split<'a> {
+    pub name: &'a str,
+    pub value: Option<&'a str>,
+    pub rest: &'a [String],
 }
 
 /// How often an option is given, and its value.
 #[derive(Clone, Copy)]
-pub(crate) enum Given<'a> {
+pub enum Given<'a> {
     Absent,
     /// Once, without a value.
     Bare,
@@ -30,8 +30,8 @@ pub(crate) enum Given<'a> {
     Twice,
 }
 
-/// Splits off the first option: `--tidy` alone, or any other word with the one behind it.
-pub(crate) fn split_first(words: &[String]) -> Option<Split<'_>>
+/// Splits off the first option: `--tidy` alone, or any other word with the one behind it. There is none only where there is no word.
+pub fn split_first(words: &[String]) -> Option<Split<'_>>
     ensures { IsSplit (map (λ w. string_bytes w) words.now) result }
 {
     let [first, behind @ ..] = words else {
@@ -52,8 +52,8 @@ pub(crate) fn split_first(words: &[String]) -> Option<Split<'_>>
     }
 }
 
-/// How often the option of this name is given, and its value.
-pub(crate) fn how_given<'a>(words: &'a [String], name: &str) -> Given<'a>
+/// How often the option of this name is given, and its value. The time is in proportion to how many words there are.
+pub fn how_given<'a>(words: &'a [String], name: &str) -> Given<'a>
     ensures { IsGiven (values name.now (settings (map (λ w. string_bytes w) words.now))) result }
 {
     let mut found = Given::Absent;
@@ -78,8 +78,8 @@ fn with_value<'a>(found: Given<'a>, value: Option<&'a str>) -> Given<'a>
     }
 }
 
-/// Whether each option has one of these names.
-pub(crate) fn are_only(words: &[String], names: &[&str]) -> bool
+/// Whether each option has one of these names. The time is in proportion to how many words there are, and how many names.
+pub fn are_only(words: &[String], names: &[&str]) -> bool
     ensures { result ≡ are_only (map (λ n. n.now) names.now) (settings (map (λ w. string_bytes w) words.now)) }
 {
     let mut left = words;

@@ -11,7 +11,7 @@ use crate::of_site_journal::CRASHES;
 use crate::of_tardisd_main::words_of;
 use crate::sites::keys;
 use crate::talks::{Talk, bytes_of, copied, put};
-use command_words::DaemonPlan;
+use daemon_words::DaemonPlan;
 use disk_store::Store;
 use hub::{Connection, Ports, Ready};
 use memory_disks::{MemoryDisk, MemoryStore};

@@ -1,7 +1,8 @@
 use crate::disks::store_of;
 use crate::sites::keys;
 use crate::talks::bytes_of;
-use command_words::{Capacity, DaemonPlan, DoorKind, DoorPlan, Place};
+use command_words::Place;
+use daemon_words::{Capacity, DaemonPlan, DoorKind, DoorPlan};
 use hub::{End, MemoryPorts, Move, Seen};
 use memory_io::MemorySink;
 use std::alloc::Global;

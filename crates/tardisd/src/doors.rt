@@ -2,7 +2,7 @@
 
 use crate::peers::PeersTold;
 use crate::words::{Faulty, Reading, Served};
-use command_words::{DaemonPlan, DoorPlan};
+use daemon_words::{DaemonPlan, DoorPlan};
 use socket_ports::{Door, DoorFault, RoomPlan, SocketPorts, open_door, path_of};
 use std::net::SocketAddr;
 use std::time::Instant;

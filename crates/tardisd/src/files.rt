@@ -1,7 +1,8 @@
 //! Why a file wasn't opened: the system is asked once more, and nothing is made.
 
 use crate::words::{FileReason, Unopened};
-use command_words::{checked_file, read_daemon, words_behind_name};
+use command_words::words_behind_name;
+use daemon_words::{checked_file, read_daemon};
 use std::fs::{self, OpenOptions};
 use std::path::Path;
 use std::{env, io};

@@ -1,6 +1,7 @@
 //! What is told on standard error: where the doors are and what was found, and why a door or a file can't be opened.
 
-use command_words::{DoorKind, DoorPlan, Place};
+use command_words::Place;
+use daemon_words::{DoorKind, DoorPlan};
 use socket_ports::{DoorFault, path_of};
 use std::net::SocketAddr;
 use std::{fmt, io};

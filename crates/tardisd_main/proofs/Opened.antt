@@ -2,8 +2,8 @@
 use Rattle.std.proofs.Common.{◌≡◌, true, List, [], ◌∷◌, length, ℕ, Option, Result, sym, subst}
 use Rattle.tardis_io.specs.Faults.{Rose}
 use Rattle.disk_store.specs.declared.disks.Disk.{Ghosts as ADisk}
-use Rattle.command_words.specs.declared.daemons.DaemonPlan.{DaemonPlan}
-use Rattle.command_words.specs.Daemons.{Daemon, daemon_of}
+use Rattle.daemon_words.specs.declared.daemons.DaemonPlan.{DaemonPlan}
+use Rattle.daemon_words.specs.Daemons.{Daemon, daemon_of}
 use Rattle.hub.specs.declared.ports.Seen.{Seen}
 use Rattle.log_groups.specs.declared.fronts.LogFront.{LogFront}
 use Rattle.site_lives.specs.Acquainted.{Acquainted}

@@ -1,6 +1,6 @@
 -- Runs of a hub over a site.
 use Rattle.std.proofs.Common.{◌≡◌, ◌<◌, ℕ, List, Option, Result, Ok, Err, IfOk, arith}
-use Rattle.command_words.specs.Daemons.{Daemon}
+use Rattle.daemon_words.specs.Daemons.{Daemon}
 use Rattle.hub.specs.declared.ports.Scope.{Scope}
 use Rattle.hub.specs.declared.ports.Seen.{Seen}
 use Rattle.hub.specs.declared.serves.End.{End}

@@ -6,7 +6,7 @@ use Rattle.hub.specs.declared.ports.Seen.{Seen}
 use Rattle.hub.specs.declared.serves.End.{End}
 use Rattle.hub.specs.Runs.{IsRun}
 use Rattle.log_groups.specs.declared.fronts.LogFront.{LogFront}
-use Rattle.command_words.specs.Daemons.{Daemon}
+use Rattle.daemon_words.specs.Daemons.{Daemon}
 use Rattle.site_lives.specs.Acquainted.{Acquainted}
 use Rattle.site_lives.specs.Things.{all_at_rest}
 use Rattle.site_lives.specs.Bytes.{TakesBack}

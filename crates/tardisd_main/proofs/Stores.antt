@@ -6,7 +6,7 @@ use Rattle.tardis_io.specs.Faults.{Rose, raised}
 use Rattle.disk_store.specs.declared.disks.Disk.{Ghosts as ADisk}
 use Rattle.disk_store.specs.declared.stores.Store.{Ghosts as AStore}
 use Rattle.disk_store.specs.Stores.{ToldStore, Opens, Refuses, FindsHeld, IsOut, with_back, count_after}
-use Rattle.command_words.specs.Daemons.{Daemon}
+use Rattle.daemon_words.specs.Daemons.{Daemon}
 use Rattle.hub.specs.declared.ports.Seen.{Seen}
 use Rattle.tardisd_main.specs.declared.endings.GateFault.{GateFault}
 use Rattle.tardisd_main.specs.declared.endings.FileFault.{FileFault}

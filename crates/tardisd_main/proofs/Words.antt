@@ -2,9 +2,9 @@
 use Rattle.std.proofs.Common.{◌≡◌, ◌⊎◌, ⊎_elim, ◌∙◌, ℕ, true, false, List, Option, Some, None, Result, Ok, Err, refl, sym, ap, subst}
 use Rattle.disk_store.specs.declared.disks.Disk.{Ghosts as ADisk}
 use Rattle.disk_store.specs.declared.stores.Store.{Ghosts as AStore}
-use Rattle.command_words.specs.declared.daemons.DaemonPlan.{DaemonPlan}
+use Rattle.daemon_words.specs.declared.daemons.DaemonPlan.{DaemonPlan}
 use Rattle.command_words.specs.Settings.{settings}
-use Rattle.command_words.specs.Daemons.{Daemon, daemon, daemon_of}
+use Rattle.daemon_words.specs.Daemons.{Daemon, daemon, daemon_of}
 use Rattle.hub.specs.declared.ports.Seen.{Seen}
 use Rattle.hub.specs.declared.serves.End.{End}
 use Rattle.hub.specs.declared.serves.End.TheVariants.{Stopped, Unsettled, Spent as AllTurns}

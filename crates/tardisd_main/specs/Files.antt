@@ -2,7 +2,7 @@
 use Rattle.std.specs.Prelude.{◌≡◌, ℕ, List, map, Option}
 use Rattle.tardis_io.specs.Faults.{Rose}
 use Rattle.disk_store.specs.declared.disks.Disk.{Ghosts as ADisk}
-use Rattle.command_words.specs.Daemons.{Daemon, daemon_limits}
+use Rattle.daemon_words.specs.Daemons.{Daemon, daemon_limits}
 use Rattle.hub.specs.declared.ports.Seen.{Seen}
 use Rattle.hub.specs.declared.serves.End.{End}
 use Rattle.hub.specs.Settlings.{PlainSettling, behind_doors}

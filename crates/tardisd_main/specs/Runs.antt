@@ -3,9 +3,10 @@ use Rattle.std.specs.Prelude.{◌≡◌, ℕ, ◌++◌, ◌≤◌, ◌⊎◌, Li
 use Rattle.disk_store.specs.declared.disks.Disk.{Ghosts as ADisk}
 use Rattle.disk_store.specs.declared.stores.Store.{Ghosts as AStore}
 use Rattle.command_words.specs.Settings.{settings}
-use Rattle.command_words.specs.Daemons.{Daemon, daemon}
-use Rattle.command_words.specs.Helps.{AskDaemonUsage, AskVersion}
-use Rattle.command_words.specs.Checks.{checked_file}
+use Rattle.daemon_words.specs.Daemons.{Daemon, daemon}
+use Rattle.command_words.specs.Helps.{AskVersion}
+use Rattle.daemon_words.specs.Helps.{AskDaemonUsage}
+use Rattle.daemon_words.specs.Checks.{checked_file}
 use Rattle.hub.specs.declared.ports.Seen.{Seen}
 use Rattle.hub.specs.declared.serves.End.{End}
 use Rattle.hub.specs.declared.serves.End.TheVariants.{Unsettled}

@@ -6,7 +6,7 @@ use Rattle.tardis_base.specs.declared.replies.Reply.TheVariants.{Tidied}
 use Rattle.wire_talk.specs.Spellings.{request_spelling, reply_spelling}
 use Rattle.wire_lives.specs.declared.life_codes.TheConstants.{BEGIN_LIFE}
 use Rattle.join_rules.specs.declared.join_codes.TheConstants.{JOIN, JOINED, LEFT}
-use Rattle.command_words.specs.Daemons.{Daemon, daemon_limits}
+use Rattle.daemon_words.specs.Daemons.{Daemon, daemon_limits}
 use Rattle.hub.specs.declared.ports.Scope.{Scope}
 use Rattle.hub.specs.declared.ports.Seen.{Seen}
 use Rattle.hub.specs.declared.serves.End.{End}

@@ -5,7 +5,7 @@ use Rattle.tardis_io.specs.Faults.{Rose}
 use Rattle.disk_store.specs.declared.disks.Disk.{Ghosts as ADisk}
 use Rattle.disk_store.specs.declared.stores.Store.{Ghosts as AStore}
 use Rattle.disk_store.specs.Stores.{ToldStore, Opens, Refuses, FindsHeld, with_back}
-use Rattle.command_words.specs.Daemons.{Daemon}
+use Rattle.daemon_words.specs.Daemons.{Daemon}
 use Rattle.hub.specs.declared.ports.Seen.{Seen}
 use Rattle.hub.specs.declared.serves.End.{End}
 use Rattle.log_groups.specs.declared.fronts.LogFront.{LogFront}

@@ -3,12 +3,13 @@
 ghost use Rattle.std.specs.Prelude.{◌≡◌, ◌⊎◌, ◌≤◌, None, Some, length, map, IfOk, IfErr};
 ghost use Rattle.std.specs.String.{string_bytes};
 ghost use Rattle.command_words.specs.Settings.{settings};
-ghost use Rattle.command_words.specs.Daemons.{Daemon, daemon, daemon_of};
-ghost use Rattle.command_words.specs.Capacity.{IsCapacity};
+ghost use Rattle.daemon_words.specs.Daemons.{Daemon, daemon, daemon_of};
+ghost use Rattle.daemon_words.specs.Capacity.{IsCapacity};
 ghost use Rattle.command_words.specs.Places.{IsPlace};
 
 use crate::endings::DaemonEnd;
-use command_words::{DaemonPlan, WordsFault, read_daemon};
+use command_words::WordsFault;
+use daemon_words::{DaemonPlan, read_daemon};
 use std::alloc::Global;
 
 /// The plan that the words name. Words without the form are `Usage`; where they have it, there may be no memory for the lists

@@ -1,12 +1,12 @@
 //! The edge of a server: where connections come from, and to which peers they go.
 
 ghost use Rattle.std.specs.Prelude.{◌≡◌, Result};
-ghost use Rattle.command_words.specs.Daemons.{Daemon, daemon_of};
+ghost use Rattle.daemon_words.specs.Daemons.{Daemon, daemon_of};
 ghost use Rattle.tardisd_main.specs.declared.endings.GateFault.{GateFault};
 ghost use Rattle.tardisd_main.specs.Doors.{number_of};
 
 use crate::endings::GateFault;
-use command_words::{DaemonPlan, DoorKind};
+use daemon_words::{DaemonPlan, DoorKind};
 use hub::Ports;
 use site_doors::{FOR_ALL, FOR_CLIENTS, FOR_PEERS};
 

@@ -2,8 +2,8 @@
 
 ghost use Rattle.std.specs.Prelude.{◌≡◌, ◌⊎◌, ◌<◌, ◌+◌, ◌≤◌, ℕ, List, true, false, length};
 ghost use Rattle.tardis_io.specs.Faults.{Rose};
-ghost use Rattle.command_words.specs.Daemons.{daemon_of};
-ghost use Rattle.command_words.specs.Capacity.{IsCapacity};
+ghost use Rattle.daemon_words.specs.Daemons.{daemon_of};
+ghost use Rattle.daemon_words.specs.Capacity.{IsCapacity};
 ghost use Rattle.command_words.specs.Places.{IsPlace};
 ghost use Rattle.log_groups.specs.Items.{IsFront};
 ghost use Rattle.log_groups.specs.declared.fronts.LogFront.{LogFront};
@@ -20,7 +20,8 @@ ghost use Rattle.tardisd_main.specs.Stores.{KeepsAs, GoesOn, ServedFrom, ServedO
 use crate::doors::{Doors, FoundSite};
 use crate::endings::{DaemonEnd, FileFault, ending_of};
 use crate::sites::serve_alive;
-use command_words::{DaemonPlan, Place};
+use command_words::Place;
+use daemon_words::DaemonPlan;
 use disk_store::{BytewiseDisk, Store};
 use hub::Ports;
 use log_groups::LogFront;

@@ -6,13 +6,13 @@ ghost use Rattle.hub.specs.Connections.{slots};
 ghost use Rattle.hub.specs.Settlings.{behind_doors};
 ghost use Rattle.hub.specs.Upkeeps.{rule_of};
 ghost use Rattle.hub.specs.Runs.{close, IsRun};
-ghost use Rattle.command_words.specs.Daemons.{daemon_of};
-ghost use Rattle.command_words.specs.Capacity.{IsCapacity};
+ghost use Rattle.daemon_words.specs.Daemons.{daemon_of};
+ghost use Rattle.daemon_words.specs.Capacity.{IsCapacity};
 ghost use Rattle.command_words.specs.Places.{IsPlace};
 ghost use Rattle.join_rules.specs.declared.join_codes.TheConstants.{JOIN};
 ghost use Rattle.tardisd_main.specs.Sites.{upkeep_rule, slow_rule, joining_rule, scope_of, begin_life, ServesPlace};
 
-use command_words::{DaemonPlan, MOST_CONNECTIONS};
+use daemon_words::{DaemonPlan, MOST_CONNECTIONS};
 use hub::{End, Ports, SLOTS, Scope, Upkeep, serve};
 use join_rules::join_codes;
 use rest_machine::Settling;

@@ -1,4 +1,4 @@
-use Rattle.command_words.specs.Daemons.{daemon_of}
+use Rattle.daemon_words.specs.Daemons.{daemon_of}
 use Rattle.tardisd_main.proofs.Stores.{no_memory}
 use Rattle.tardisd_main.proofs.files.serve_file.Goals as goal
 

@@ -1,5 +1,5 @@
 use Rattle.std.proofs.Common.{inl, inr, refl}
-use Rattle.command_words.specs.Daemons.{daemon_of}
+use Rattle.daemon_words.specs.Daemons.{daemon_of}
 use Rattle.tardisd_main.proofs.Opened.{served_from, is_refused}
 use Rattle.tardisd_main.proofs.files.serve_from.Goals as goal
 

@@ -1,5 +1,5 @@
 use Rattle.std.proofs.Common.{◌∙◌, Ok, Err, ap, subst, refl}
-use Rattle.command_words.specs.Daemons.{daemon_of}
+use Rattle.daemon_words.specs.Daemons.{daemon_of}
 use Rattle.log_groups.specs.declared.fronts.LogFront.{LogFront}
 use Rattle.rest_site.specs.Stands.{opened_alone}
 use Rattle.site_log.specs.Kept.{starts}

@@ -1,5 +1,5 @@
 use Rattle.std.proofs.Common.{inl, inr, refl}
-use Rattle.command_words.specs.Daemons.{daemon_of}
+use Rattle.daemon_words.specs.Daemons.{daemon_of}
 use Rattle.site_log.specs.Kept.{starts}
 use Rattle.tardisd_main.proofs.Serving.{not_served, serves_file}
 use Rattle.tardisd_main.proofs.files.serve_ports.Goals as goal

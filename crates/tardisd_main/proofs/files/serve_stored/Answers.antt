@@ -1,4 +1,4 @@
-use Rattle.command_words.specs.Daemons.{daemon_of}
+use Rattle.daemon_words.specs.Daemons.{daemon_of}
 use Rattle.tardisd_main.proofs.Stores.{no_file, with_file}
 use Rattle.tardisd_main.proofs.files.serve_stored.Goals as goal
 

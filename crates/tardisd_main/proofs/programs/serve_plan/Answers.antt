@@ -1,4 +1,4 @@
-use Rattle.command_words.specs.Daemons.{daemon_of}
+use Rattle.daemon_words.specs.Daemons.{daemon_of}
 use Rattle.tardisd_main.proofs.Words.{neither, serves_as, keeps_as}
 use Rattle.tardisd_main.proofs.programs.serve_plan.Goals as goal
 

@@ -1,7 +1,7 @@
 use Rattle.std.proofs.Common.{◌≡◌, None, Some, inl, map, refl, sym, subst}
 use Rattle.std.specs.String.{string_bytes}
 use Rattle.command_words.specs.Settings.{settings}
-use Rattle.command_words.specs.Daemons.{Daemon, daemon, daemon_of}
+use Rattle.daemon_words.specs.Daemons.{Daemon, daemon, daemon_of}
 use Rattle.tardisd_main.specs.Runs.{ServesAs}
 use Rattle.tardisd_main.specs.Stores.{KeepsAs}
 use Rattle.tardisd_main.proofs.Words.{no_form, of_plan, unplanned_usage, unplanned_none, unplanned_some, unplanned_unwritten}

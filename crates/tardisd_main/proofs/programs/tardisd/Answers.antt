@@ -1,8 +1,8 @@
 use Rattle.std.proofs.Common.{◌∙◌, ℕ, List, map, refl, sym, subst}
 use Rattle.std.specs.String.{string_bytes}
 use Rattle.command_words.specs.Settings.{settings}
-use Rattle.command_words.specs.Daemons.{daemon}
-use Rattle.command_words.specs.Checks.{checked_file}
+use Rattle.daemon_words.specs.Daemons.{daemon}
+use Rattle.daemon_words.specs.Checks.{checked_file}
 use Rattle.command_words.specs.declared.helps.Help.TheVariants.{Usage, Version}
 use Rattle.tardisd_main.specs.Checks.{ChecksAs}
 use Rattle.tardisd_main.proofs.Words.{neither, no_form, same_some, unasked}

@@ -1,5 +1,5 @@
 use Rattle.std.proofs.Common.{subst}
-use Rattle.command_words.specs.Daemons.{daemon_of}
+use Rattle.daemon_words.specs.Daemons.{daemon_of}
 use Rattle.plain_site.specs.Site.{opening}
 use Rattle.site_lives.specs.Acquainted.{unacquainted}
 use Rattle.rest_site.specs.Stands.{AcquaintedStands}

@@ -1,0 +1,3 @@
+-- Lemmas on the words of the server.
+pub mod Givens
+pub mod Modes
