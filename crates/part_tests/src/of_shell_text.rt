@@ -1,7 +1,8 @@
 //! What no clause says: that there is memory for requests and replies, and lines from outside.
 
 use crate::letters::letter;
-use shell_text::{Text, line_of, read_line, read_reply_line, reply_line};
+use reply_text::{Text, line_of, read_reply_line, reply_line};
+use shell_text::read_line;
 use std::alloc::Global;
 use std::process::Abort;
 use tardis_base::{Reply, Request};

@@ -11,5 +11,4 @@ pub mod Finished
 pub mod ReplyFits
 pub mod RequestFits
 pub mod LineReads
-pub mod ReplyReads
 pub mod NamedReads

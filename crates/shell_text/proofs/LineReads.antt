@@ -16,7 +16,7 @@ use Rattle.tardis_base.specs.declared.requests.Request.{Request}
 use Rattle.tardis_base.specs.declared.requests.Request.TheVariants.{BeginMerge, Deliver}
 use Rattle.tardis_base.specs.Valid.{are_bytes, is_id, is_key, is_u32, is_value, is_within}
 use Rattle.tardis_base.proofs.TestParts.{and-true}
-use Rattle.wire_item.specs.Fronts.{Front, alone, both, made, only_if, times, whole}
+use Rattle.wire_item.specs.Fronts.{Front, alone, made, only_if, times, whole}
 use Rattle.wire_item.specs.Laws.{ItemsHaveOneSpelling, RecordsHaveTheirLength, RecordsAreBounded, ConsentsHaveSixteenBytes}
 use Rattle.wire_item.specs.Readings.{item_of}
 use Rattle.wire_item.specs.Spellings.{item_spelling}
@@ -194,49 +194,9 @@ pub kept-err : {A B : Type 0} (free : B → Bool) (f : A → B) (front : Front A
 kept-err {A} {B} free f front text fault never h =
     subst (λ (o : Option B). IsAnswerWhere free o (Err fault)) (sym (whole-made f front text)) (kept-fault free f (whole front text) fault never h)
 
-pub result-same : {A : Type 0} (read : Option A) (result other : Result A ReadFault) → result ≡ other → IsAnswerWhere (λ _. false) read result
-    → IsAnswerWhere (λ _. false) read other
-result-same {A} read result other e h = subst (λ (r : Result A ReadFault). IsAnswerWhere (λ _. false) read r) e h
-
 pub read-same : {A : Type 0} (front : Front (List A)) (text : List ℕ) (read other : Option (Result (List A) NoMemory × List ℕ)) → read ≡ other
     → AreRead front text read → AreRead front text other
 read-same {A} front text read other e h = subst (λ (o : Option (Result (List A) NoMemory × List ℕ)). AreRead front text o) e h
-
--- ---- one part after another
-
-pub whole-stop : {A B C : Type 0} (f : A × B → C) (first : Front A) (second : Front B) (text : List ℕ) → ◌≡◌ {A = Option (A × List ℕ)} None (first text)
-    → None ≡ whole (made f (both first second)) text
-whole-stop {A} {B} {C} f first second text e =
-    ap (λ (o : Option (A × List ℕ)). option_and_then {T = C × List ℕ} (λ read. alone read.0 read.1)
-    (option_map {T = (A × B) × List ℕ} (λ read. (f read.0, read.1))
-    (option_and_then {T = A × List ℕ} {U = (A × B) × List ℕ} (λ read. made (λ b. (read.0, b)) second read.1) o))) e
-
-pub whole-step : {A B C : Type 0} (f : A × B → C) (first : Front A) (second : Front B) (text : List ℕ) (a : A) (rest : List ℕ)
-    → ◌≡◌ {A = Option (A × List ℕ)} (Some (a, rest)) (first text) → whole (made (λ b. f (a, b)) second) rest ≡ whole (made f (both first second)) text
-whole-step {A} {B} {C} f first second text a rest e =
-    go (second rest)
-    ∙ ap (λ (o : Option (A × List ℕ)). option_and_then {T = C × List ℕ} (λ read. alone read.0 read.1)
-    (option_map {T = (A × B) × List ℕ} (λ read. (f read.0, read.1))
-    (option_and_then {T = A × List ℕ} {U = (A × B) × List ℕ} (λ read. made (λ b. (read.0, b)) second read.1) o))) e
-  where
-    go : (o : Option (B × List ℕ)) → option_and_then {T = C × List ℕ} (λ read. alone read.0 read.1)
-        (option_map {T = B × List ℕ} (λ read. (f (a, read.0), read.1)) o)
-        ≡ option_and_then {T = C × List ℕ} (λ read. alone read.0 read.1) (option_map {T = (A × B) × List ℕ} (λ read. (f read.0, read.1))
-        (option_map {T = B × List ℕ} {U = (A × B) × List ℕ} (λ read. ((a, read.0), read.1)) o))
-    go None = refl
-    go (Some read) = refl
-
-pub last-stop : {A B : Type 0} (f : A → B) (front : Front A) (text : List ℕ) → ◌≡◌ {A = Option (A × List ℕ)} None (front text)
-    → None ≡ whole (made f front) text
-last-stop {A} {B} f front text e =
-    ap (λ (o : Option (A × List ℕ)). option_and_then {T = B × List ℕ} (λ read. alone read.0 read.1)
-    (option_map {T = A × List ℕ} (λ read. (f read.0, read.1)) o)) e
-
-pub last-step : {A B : Type 0} (f : A → B) (front : Front A) (text : List ℕ) (a : A) (rest : List ℕ)
-    → ◌≡◌ {A = Option (A × List ℕ)} (Some (a, rest)) (front text) → alone (f a) rest ≡ whole (made f front) text
-last-step {A} {B} f front text a rest e =
-    ap (λ (o : Option (A × List ℕ)). option_and_then {T = B × List ℕ} (λ read. alone read.0 read.1)
-    (option_map {T = A × List ℕ} (λ read. (f read.0, read.1)) o)) e
 
 -- ---- where words end
 

@@ -4,10 +4,8 @@ use Rattle.tardis_base.specs.declared.faults.NoMemory.{NoMemory}
 use Rattle.tardis_base.specs.declared.faults.ReadFault.{ReadFault}
 use Rattle.tardis_base.specs.declared.faults.ReadFault.TheVariants.{Malformed, NoMemory as OutOfMemory}
 use Rattle.tardis_base.specs.declared.requests.Request.{Request}
-use Rattle.tardis_base.specs.declared.replies.Refusal.{Refusal}
-use Rattle.tardis_base.specs.declared.replies.Reply.{Reply}
 use Rattle.wire_item.specs.Fronts.{Front}
-use Rattle.wire_talk.specs.Memory.{takes_no_memory, refusal_takes_no_memory, reply_takes_no_memory}
+use Rattle.wire_talk.specs.Memory.{takes_no_memory}
 
 -- what was read, or that nothing was; memory may be wanting only for what isn't free of it
 abbrev pub IsAnswerWhere : {A : Type 0} → (A → Bool) → Option A → Result A ReadFault → Type 0
@@ -17,12 +15,6 @@ IsAnswerWhere {A} free read (Err OutOfMemory) = (a : A) × (read ≡ Some a) × 
 
 abbrev pub IsAnswer : Option Request → Result Request ReadFault → Type 0
 IsAnswer = IsAnswerWhere takes_no_memory
-
-abbrev pub IsReply : Option Reply → Result Reply ReadFault → Type 0
-IsReply = IsAnswerWhere reply_takes_no_memory
-
-abbrev pub IsRefusal : Option Refusal → Result Refusal ReadFault → Type 0
-IsRefusal = IsAnswerWhere refusal_takes_no_memory
 
 -- the bytes that stand at the front are so many in the room, and this is what stands behind them
 abbrev pub IsReadInto : Front (List ℕ) → List ℕ → List ℕ → Option (ℕ × List ℕ) → Type 0

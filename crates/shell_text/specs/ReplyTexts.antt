@@ -1,5 +1,5 @@
 -- How the lines of replies are read back, with a space behind each word.
-use Rattle.std.specs.Prelude.{ℕ, ◌^◌, Bool, List, [], ◌∷◌, ◌++◌, Option, codes, is_some, option_and_then}
+use Rattle.std.specs.Prelude.{ℕ, ◌^◌, List, [], ◌∷◌, ◌++◌, Option, codes, option_and_then}
 use Rattle.tardis_base.specs.declared.ids.StateId.{StateId}
 use Rattle.tardis_base.specs.declared.records.Batch.{Batch as BatchOf}
 use Rattle.tardis_base.specs.declared.replies.SiteLine.{SiteLine}
@@ -17,7 +17,7 @@ use Rattle.wire_item.specs.Fronts.{Front, nothing_but, made, only_if, both, time
 use Rattle.wire_item.specs.Readings.{batch_of}
 use Rattle.wire_talk.specs.Valid.{are_first_ids, are_first_keys, are_site_lines}
 use Rattle.text_words.specs.Words.{Word}
-use Rattle.text_words.specs.Texts.{parsed, number_until, id_until, hex_bytes, rest_of, behind, by_prefix}
+use Rattle.text_words.specs.Texts.{parsed, number_until, id_until, hex_bytes, rest_of, by_prefix}
 use Rattle.shell_text.specs.RequestTexts.{key_text, value_text}
 
 abbrev pub u8_text : Front ℕ
@@ -145,7 +145,3 @@ reply_text = by_prefix reply_text_rows
 -- the reply whose line this is
 abbrev pub line_reply_of : List ℕ → Option Reply
 line_reply_of bytes = whole reply_text (bytes ++ 32 ∷ [])
-
--- the line's first word is batch
-abbrev pub is_batch_line : List ℕ → Bool
-is_batch_line bytes = is_some (behind (codes "batch ") (bytes ++ 32 ∷ []))

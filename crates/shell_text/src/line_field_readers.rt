@@ -38,7 +38,8 @@ pub fn sure(read: Option<Request>) -> Result<Request, ReadFault>
     }
 }
 
-/// The bytes of a key.
+/// The bytes of the key whose word stands at the front, in the room: how many they are, and what is left behind the word.
+/// Where no key's word stands there, the room may hold anything. It takes no memory, and the cost grows with the word.
 pub fn key_into<'a>(words: &Words<'a>, room: &mut [u8]) -> Option<(usize, Words<'a>)>
     requires { longest_key ≤ length room.old }
     ensures bytes { IsReadInto key_text words.now room.new result }
@@ -59,7 +60,9 @@ pub fn key_into<'a>(words: &Words<'a>, room: &mut [u8]) -> Option<(usize, Words<
     }
 }
 
-/// The bytes of a value.
+/// The bytes of the value whose word stands at the front, in the room: how many they are, and what is left behind the
+/// word. Where no value's word stands there, the room may hold anything. It takes no memory, and the cost grows with the
+/// word.
 pub fn value_into<'a>(words: &Words<'a>, room: &mut [u8]) -> Option<(usize, Words<'a>)>
     requires { longest_value ≤ length room.old }
     ensures bytes { IsReadInto value_text words.now room.new result }
@@ -92,7 +95,7 @@ fn is_value_length(count: usize) -> bool
     count <= MAX_VALUE
 }
 
-/// The key, where nothing is left behind it.
+/// The key, where nothing is left behind it. It takes memory for the key, once it is known to be one.
 pub fn key_alone(alloc: Global, words: &Words) -> Result<Key, ReadFault>
     ensures { IsAnswerWhere (λ _. false) (whole key_text words.now) result }
 {
@@ -118,7 +121,8 @@ fn key_of(alloc: Global, key: &[u8]) -> Result<Key, ReadFault>
     }
 }
 
-/// The list, where there was memory for it and nothing is left behind it.
+/// The list that was read at the front of words, where there was memory for it and nothing is left behind it. What was
+/// read may be that of any front: [`ids`] reads one.
 pub fn list_alone<T: Drop>(
     read: Option<(Result<ListOf<T>, NoMemory>, Words<'_>)>,
 ) -> Result<ListOf<T>, ReadFault>
@@ -314,7 +318,8 @@ fn is_state_count(count: usize) -> bool
     (1..=255).contains(&count)
 }
 
-/// So many ids.
+/// So many ids from the front, and what is left behind them. Where memory is wanting for the list, all of its words are
+/// read all the same. The cost grows with their number.
 pub fn ids<'a>(
     alloc: Global,
     count: usize,

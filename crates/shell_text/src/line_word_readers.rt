@@ -15,7 +15,7 @@ ghost use Rattle.wire_item.specs.Fronts.{alone, made, whole};
 use tardis_base::{Begin, EndFlags, Request};
 use text_words::Words;
 
-/// The thing, where nothing is left behind it.
+/// The thing, where nothing is left behind it; else it is let go.
 pub fn alone<T: Drop>(thing: T, left: &Words) -> Option<T>
     ensures { result ≡ alone thing left.now }
 {

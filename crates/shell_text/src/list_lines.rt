@@ -130,7 +130,7 @@ pub fn put_ascending_keys(lead: &[u8], count: u16, unread: &mut Unread, out: &mu
     }
 }
 
-/// Whether the id may stand behind this one in ascending order.
+/// Whether the id may stand behind this one in ascending order, by its site and then its number; the first may be any.
 pub fn id_follows(last: Option<StateId>, id: StateId) -> bool
     ensures { result ≡ option_map_or (λ before. is_before before id) last true }
 {

@@ -1,0 +1,3 @@
+-- What is read of the lines of replies.
+mod PartReads
+mod ReplyReads

@@ -1,0 +1,43 @@
+use Rattle.std.proofs.Common.{codes, drop}
+use Rattle.tardis_base.specs.declared.replies.Excess.TheVariants.{WrittenKeys, ReadKeys, MergedStates}
+use Rattle.tardis_base.specs.declared.replies.Refusal.TheVariants.{TooMany}
+use Rattle.wire_item.specs.Fronts.{made, whole}
+use Rattle.wire_talk.specs.Memory.{refusal_takes_no_memory}
+use Rattle.shell_text.specs.ReplyTexts.{refusal_text_rows, u32_text}
+use Rattle.shell_text.proofs.NamedReads.{answer-first, answer-later, answer-same}
+use Rattle.reply_text.proofs.refusal_word_readers.read_limit_refusal.Goals as goal
+
+pub returns-in-Some : goal.returns-in-Some
+returns-in-Some c =
+    answer-first refusal_takes_no_memory (codes "toomany writes ") (made (λ n. TooMany WrittenKeys n) u32_text) (drop 8 refusal_text_rows) c.args.words.now
+    c.in-Some.left c.sure.result c.in-Some.ensures (answer-same refusal_takes_no_memory c.too_many.result (whole (made (λ n. TooMany WrittenKeys n) u32_text)
+    c.in-Some.left) c.sure.result c.too_many.ensures c.sure.ensures)
+
+pub returns-in-Some-behind : goal.returns-in-Some-behind
+returns-in-Some-behind c =
+    answer-later refusal_takes_no_memory (codes "toomany writes ") (made (λ n. TooMany WrittenKeys n) u32_text) (drop 8 refusal_text_rows) c.args.words.now
+    c.behind.result c.sure-in-Some-behind.result c.behind.ensures c.in_default.not-Some
+    (answer-first refusal_takes_no_memory (codes "toomany reads ") (made (λ n. TooMany ReadKeys n) u32_text) (drop 9 refusal_text_rows) c.args.words.now
+    c.in-Some-behind.left c.sure-in-Some-behind.result c.in-Some-behind.ensures (answer-same refusal_takes_no_memory c.too_many-in-Some-behind.result (whole
+    (made (λ n. TooMany ReadKeys n) u32_text) c.in-Some-behind.left) c.sure-in-Some-behind.result c.too_many-in-Some-behind.ensures c.sure-in-Some-behind.ensures))
+
+pub returns-in-Some-behind-2 : goal.returns-in-Some-behind-2
+returns-in-Some-behind-2 c =
+    answer-later refusal_takes_no_memory (codes "toomany writes ") (made (λ n. TooMany WrittenKeys n) u32_text) (drop 8 refusal_text_rows) c.args.words.now
+    c.behind.result c.sure-in-Some-behind-2.result c.behind.ensures c.in_default.not-Some
+    (answer-later refusal_takes_no_memory (codes "toomany reads ") (made (λ n. TooMany ReadKeys n) u32_text) (drop 9 refusal_text_rows) c.args.words.now
+    c.behind-2.result c.sure-in-Some-behind-2.result c.behind-2.ensures c.in_default-behind.not-Some
+    (answer-first refusal_takes_no_memory (codes "toomany states ") (made (λ n. TooMany MergedStates n) u32_text) (drop 10 refusal_text_rows) c.args.words.now
+    c.in-Some-behind-2.left c.sure-in-Some-behind-2.result c.in-Some-behind-2.ensures (answer-same refusal_takes_no_memory c.too_many-in-Some-behind-2.result
+    (whole (made (λ n. TooMany MergedStates n) u32_text) c.in-Some-behind-2.left) c.sure-in-Some-behind-2.result c.too_many-in-Some-behind-2.ensures
+    c.sure-in-Some-behind-2.ensures)))
+
+pub returns : goal.returns
+returns c =
+    answer-later refusal_takes_no_memory (codes "toomany writes ") (made (λ n. TooMany WrittenKeys n) u32_text) (drop 8 refusal_text_rows) c.args.words.now
+    c.behind.result c.read_state_refusal.result c.behind.ensures c.in_default.not-Some
+    (answer-later refusal_takes_no_memory (codes "toomany reads ") (made (λ n. TooMany ReadKeys n) u32_text) (drop 9 refusal_text_rows) c.args.words.now
+    c.behind-2.result c.read_state_refusal.result c.behind-2.ensures c.in_default-behind.not-Some
+    (answer-later refusal_takes_no_memory (codes "toomany states ") (made (λ n. TooMany MergedStates n) u32_text) (drop 10 refusal_text_rows) c.args.words.now
+    c.behind-3.result c.read_state_refusal.result c.behind-3.ensures c.in_default-behind-2.not-Some
+    (c.read_state_refusal.ensures)))

@@ -1,0 +1,2 @@
+-- What is answered for the lines of replies.
+pub mod Answers
