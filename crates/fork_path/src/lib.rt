@@ -15,7 +15,6 @@ pub use crate::tiles::Tile;
 use std::alloc::{AllocError, Global};
 use std::marker::Model;
 
-
 /// How many tiles a path can have at most. No memory holds more.
 const MOST_TILES: usize = 1 << 57;
 

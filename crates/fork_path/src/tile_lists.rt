@@ -10,7 +10,6 @@ ghost use Rattle.fork_path.specs.Tiles.{key_of, keys_of, holds, some_holds, pair
 use crate::tiles::Tile;
 use std::alloc::{AllocError, Global};
 
-
 /// How many pairs the tiles have.
 pub fn count_of(tiles: &[Tile]) -> usize
     requires { length tiles.now ≤ 2 ^ 57 }
