@@ -8,19 +8,11 @@ use Rattle.plain_dag.specs.Floors.{Session}
 use Rattle.plain_site.specs.Site.{Site}
 use Rattle.plain_site.specs.Answers.{Answer, refused}
 use Rattle.plain_site.specs.Sound.{IsSound}
+pub use Rattle.any_site.specs.Gives.{IsGiven, Gives}
 use Rattle.session_core.specs.Core.{Core}
 use Rattle.session_core.specs.Stands.{CoreStands}
 use Rattle.session_core.specs.declared.stops.Stop.{Stop}
 use Rattle.session_core.specs.declared.stops.Stop.TheVariants.{Refused, NoMemory}
-
--- the plain answer: its reply, and what stands for its site
-abbrev pub IsGiven : (Site → Type 0) → Answer → Reply → Type 0
-IsGiven stands answer reply = stands answer.0 × (reply ≡ answer.1)
-
--- the plain answer; or there was no memory, and what stands for the site as it was
-abbrev pub Gives : (Site → Type 0) → Answer → Site → Result Reply OutOfMemory → Type 0
-Gives stands answer old (Ok reply) = IsGiven stands answer reply
-Gives stands answer old (Err fault) = stands old
 
 -- what a stop leaves: what stands for the site as it was; and the plain answer is the refusal, where it is one
 abbrev pub Stops : (Site → Type 0) → Answer → Site → Stop → Type 0

@@ -1,9 +1,7 @@
 -- What the machine over the parts stands for, and what it answers.
-use Rattle.std.specs.Prelude.{◌≡◌, ◌≤◌, ℕ, List, [], length, Option, Some, None, Result, Ok, Err, IsTrue}
-use Rattle.tardis_base.specs.Sizes.{longest_frame}
+use Rattle.std.specs.Prelude.{◌≡◌, ℕ, List, [], Option, Some, None, Result, Ok, Err, IsTrue}
 use Rattle.tardis_base.specs.declared.replies.Refusal.TheVariants.{Malformed}
 use Rattle.tardis_base.specs.declared.replies.Reply.{Reply}
-use Rattle.tardis_base.specs.declared.replies.Reply.TheVariants.{NoMemory}
 use Rattle.tardis_base.specs.declared.ids.Slot.{Slot}
 use Rattle.tardis_base.specs.declared.ids.StateId.{StateId}
 use Rattle.tardis_base.specs.declared.records.Write.{Write}
@@ -11,7 +9,7 @@ use Rattle.tardis_base.specs.declared.records.Write.TheVariants.{Put as Value, D
 use Rattle.tardis_base.specs.declared.requests.Request.{Request}
 use Rattle.tardis_base.specs.declared.requests.Request.TheVariants.{Put, Delete}
 use Rattle.wire_talk.specs.Spellings.{reply_spelling}
-use Rattle.wire_talk.specs.Valid.{is_request, is_reply}
+use Rattle.wire_talk.specs.Valid.{is_request}
 use Rattle.wire_talk.specs.RequestReadings.{request_of}
 use Rattle.tardis_base.specs.Keys.{write_of}
 use Rattle.plain_dag.specs.Entries.{entry_of}
@@ -24,6 +22,7 @@ use Rattle.plain_site.specs.Sound.{IsSound}
 use Rattle.plain_site.specs.Answers.{Answer, refused, with_txn, found}
 use Rattle.plain_site.specs.Reads.{get, having_read}
 use Rattle.plain_site.specs.Step.{step, step_over_bytes}
+pub use Rattle.any_site.specs.Gives.{IsTold}
 use Rattle.session_core.specs.Core.{Core}
 use Rattle.session_core.specs.Gives.{Stops, GivesOrStops}
 use Rattle.session_core.specs.Stands.{CoreStands}
@@ -36,12 +35,6 @@ SiteStands core site = CoreStands core site × IsSound site
 -- the plain site with which it opened, by its limits and its own number
 abbrev pub opened_with : Core → Site
 opened_with core = opening core.store.table.limits core.book.own
-
--- the reply can be spelled, it fits a frame, and it doesn't say that memory is wanting
-pub record IsTold (reply : Reply) : Type 0 where
-  pub valid : IsTrue (is_reply reply)
-  pub short : length (reply_spelling reply) ≤ longest_frame
-  pub other : reply ≡ NoMemory → ⊥
 
 -- the plain answer, its reply in bytes; or there was no memory, and no byte
 abbrev pub GivesBytes : {E : Type 0} → (Site → Type 0) → Answer → Site → Result (Unit {0}) E → List ℕ → Type 0

@@ -13,6 +13,7 @@ ghost use Rattle.plain_site.specs.Sound.{IsSound};
 ghost use Rattle.session_core.specs.Stands.{CoreStands};
 ghost use Rattle.session_core.specs.Machine.{SiteStands};
 
+mod any_sites;
 mod bytes;
 mod commits;
 mod dispatch;
