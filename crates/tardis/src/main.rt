@@ -11,6 +11,7 @@ mod gates;
 
 use disk_forms::FileStore;
 use gates::{TellingDial, TellingGate};
+use session_core::SiteCore;
 use socket_links::{SocketDial, SocketGate};
 use std::alloc::Global;
 use std::env::{self, Args};
@@ -75,7 +76,7 @@ where
             let mut gate = TellingGate::new(rt, SocketGate::new(rt));
             let mut dial = TellingDial::new(rt, SocketDial::new(rt));
             let mut store = FileStore::new(alloc, rt);
-            carry_out(
+            carry_out::<SiteCore, _, _, _, _, _, _>(
                 alloc,
                 rt,
                 keys,

@@ -33,10 +33,10 @@ never_usage NotBound e = absurd (omega (arith, ap status_number e))
 never_usage NotMade e = absurd (omega (arith, ap status_number e))
 never_usage (Served s) e = served_never (nat_lt 0 s.unserved || rounds_lack_memory s.rounds) s.gate s.written (has_dial_fault s.rounds) e
 
-module _ {L G X D O : Type 0} (g : AGate G L) (l : ADuplex L) (gives : ASink L) (d : ADial D X) (x : ADuplex X) (dialled : ASink X) (o : ASink O)
+module _ {M L G X D O : Type 0} (opened : M → Site) (g : AGate G L) (l : ADuplex L) (gives : ASink L) (d : ADial D X) (x : ADuplex X) (dialled : ASink X) (o : ASink O)
     (gate : G) (dial : D) (output : O) where
   pub no_server : (site : Site) (max_trail : ℕ) (work : Workload)
-      → ServerEnds g l gives d x dialled o gate gate dial dial output output site max_trail work NoMemory
+      → ServerEnds opened g l gives d x dialled o gate gate dial dial output output site max_trail work NoMemory
   no_server site max_trail work = record {
     end = NotMade;
     outcome = record {

@@ -98,13 +98,13 @@ module _ {I O : Type 0} (i : ASource I) (o : ASink O)
 abbrev pub work_of : Serving → Workload
 work_of plan = record { links = plan.links; peers = plan.peers; rounds = plan.rounds; tidy = plan.tidy }
 
-module _ {L G X D O : Type 0} (g : AGate G L) (l : ADuplex L) (gives : ASink L) (d : ADial D X) (x : ADuplex X) (dialled : ASink X) (o : ASink O)
+module _ {M L G X D O : Type 0} (opened : M → Site) (g : AGate G L) (l : ADuplex L) (gives : ASink L) (d : ADial D X) (x : ADuplex X) (dialled : ASink X) (o : ASink O)
     (gate gate_now : G) (dial dial_now : D) (before after : O) (words : List (List ℕ)) (status : Status) where
   -- words of `serve`: links are served by the site of their place, which opens, as many as they say, the rounds are made that
   -- they say, and the trail is written
   abbrev pub Serves : Type 0
   Serves = (plan : Serving) → AreServe words plan
-      → ServerEnds g l gives d x dialled o gate gate_now dial dial_now before after (site_at plan.place) (program_limits plan.place.sites).max_trail (work_of plan) status
+      → ServerEnds opened g l gives d x dialled o gate gate_now dial dial_now before after (site_at plan.place) (program_limits plan.place.sites).max_trail (work_of plan) status
 
 module _ {I O K S : Type 0} (i : ASource I) (o : ASink O) (st : AStore S K) (k : ADisk K) (store store_now : S) (old new : I) (before after : O)
     (words : List (List ℕ)) (status : Status) where

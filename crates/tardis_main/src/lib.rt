@@ -16,6 +16,7 @@ mod laws;
 mod plans;
 mod programs;
 
+use any_site::AnySite;
 use auto_run::auto;
 use branch_export::run_import;
 use command_words::{Command, WordsFault, commands_are_at_a_site, read_words};
@@ -35,12 +36,20 @@ use std::thread::Threads;
 use tardis_io::{Dial, Gate, Sink, Source, Status};
 use world_core::run_world;
 
-/// Carries out the command that the words name, at the place among the sites that they name. Words without a form
-/// are `Status::Usage`; then nothing is read, written, listened to, called or opened.
+/// Carries out the command that the words name, by sites of this kind, at the place among the sites that they name. Words without a
+/// form are `Status::Usage`; then nothing is read, written, listened to, called or opened.
 ///
 /// Keys are found by hashing with this seed. Only `serve` starts threads and waits, and only it uses the gate and the dial. Only
 /// `durable` uses the store.
-pub fn tardis<I: Source, O: Sink, G: Gate, D: Dial + Send, S: Store, R: Threads + Wait + Sync>(
+pub fn tardis<
+    A: AnySite + Send,
+    I: Source,
+    O: Sink,
+    G: Gate,
+    D: Dial + Send,
+    S: Store,
+    R: Threads + Wait + Sync,
+>(
     alloc: Global,
     rt: &R,
     keys: RandomState,
@@ -62,7 +71,7 @@ pub fn tardis<I: Source, O: Sink, G: Gate, D: Dial + Send, S: Store, R: Threads 
     ensures export { Exports I.Source O.Sink input.old input.new output.old output.new (map (λ w. string_bytes w) words.now) result }
     ensures import { Imports I.Source O.Sink input.old input.new output.old output.new (map (λ w. string_bytes w) words.now) result }
     ensures load { Loads I.Source O.Sink input.old input.new output.old output.new (map (λ w. string_bytes w) words.now) result }
-    ensures serve { Serves G.Gate G.Link.Duplex.own G.Link.Sink D.Dial D.Link.Duplex.own D.Link.Sink O.Sink gate.old gate.new dial.old dial.new output.old output.new
+    ensures serve { Serves A.opened G.Gate G.Link.Duplex.own G.Link.Sink D.Dial D.Link.Duplex.own D.Link.Sink O.Sink gate.old gate.new dial.old dial.new output.old output.new
         (map (λ w. string_bytes w) words.now) result }
     ensures durable { Durables I.Source O.Sink S.Store S.Disk.Disk store.old store.new input.old input.new output.old output.new (map (λ w. string_bytes w) words.now) result }
     ensures unread { (plan : Serving) → AreServe (map (λ w. string_bytes w) words.now) plan → input.new ≡ input.old }
@@ -75,21 +84,28 @@ pub fn tardis<I: Source, O: Sink, G: Gate, D: Dial + Send, S: Store, R: Threads 
     ensures disk { CausedBy Status.DiskFault (S.faults store.old) (S.faults store.new) result }
 {
     match read_words(alloc, words) {
-        Ok(Command::Run(place)) => run(alloc, keys, place.limits(), place.site, input, output),
+        Ok(Command::Run(place)) => run::<A, I, O>(
+            alloc,
+            keys,
+            place.limits(),
+            place.site,
+            input,
+            output,
+        ),
         Ok(Command::Shell(place)) => {
-            shell(alloc, keys, place.limits(), place.site, input, output)
+            shell::<A, I, O>(alloc, keys, place.limits(), place.site, input, output)
         }
         Ok(Command::Audit(place)) => {
-            audit_frames(alloc, keys, place.limits(), place.site, input, output)
+            audit_frames::<A, I, O>(alloc, keys, place.limits(), place.site, input, output)
         }
-        Ok(Command::World { sites }) => run_world(alloc, keys, sites, input, output),
+        Ok(Command::World { sites }) => run_world::<A, I, O>(alloc, keys, sites, input, output),
         Ok(Command::Serve(plan)) => {
             commands_are_at_a_site();
-            serve_plan(alloc, rt, keys, &plan, gate, dial, output)
+            serve_plan::<A, O, G, D, R>(alloc, rt, keys, &plan, gate, dial, output)
         }
-        Ok(Command::Load { start, steps }) => run_load(alloc, keys, start, steps, output),
+        Ok(Command::Load { start, steps }) => run_load::<A, O>(alloc, keys, start, steps, output),
         Ok(Command::Auto { place, rules }) => {
-            auto(
+            auto::<A, I, O>(
                 alloc,
                 keys,
                 place.limits(),
@@ -99,7 +115,7 @@ pub fn tardis<I: Source, O: Sink, G: Gate, D: Dial + Send, S: Store, R: Threads 
                 output,
             )
         }
-        Ok(Command::Export { place, state }) => export(
+        Ok(Command::Export { place, state }) => export::<A, I, O>(
             alloc,
             keys,
             place.limits(),
@@ -109,7 +125,7 @@ pub fn tardis<I: Source, O: Sink, G: Gate, D: Dial + Send, S: Store, R: Threads 
             output,
         ),
         Ok(Command::Import) => run_import(alloc, input, output),
-        Ok(Command::Durable { place, path }) => durable(
+        Ok(Command::Durable { place, path }) => durable::<A, S, I, O>(
             alloc,
             keys,
             place.limits(),

@@ -6,6 +6,7 @@ ghost use Rattle.command_words.specs.Places.{IsPlace, program_limits};
 ghost use Rattle.site_commands.specs.Ends.{CausedBy, ServerEnds};
 ghost use Rattle.tardis_main.specs.Program.{site_at, work_of};
 
+use any_site::AnySite;
 use command_words::ServePlan;
 use serve_run::ServeOptions;
 use site_commands::serve;
@@ -16,7 +17,13 @@ use std::thread::Threads;
 use tardis_io::{Dial, Gate, Sink, Status};
 
 /// Serves links and makes rounds as a plan says.
-pub(crate) fn serve_plan<O: Sink, G: Gate, D: Dial + Send, R: Threads + Wait + Sync>(
+pub(crate) fn serve_plan<
+    A: AnySite + Send,
+    O: Sink,
+    G: Gate,
+    D: Dial + Send,
+    R: Threads + Wait + Sync,
+>(
     alloc: Global,
     rt: &R,
     keys: RandomState,
@@ -28,7 +35,7 @@ pub(crate) fn serve_plan<O: Sink, G: Gate, D: Dial + Send, R: Threads + Wait + S
     requires place { IsPlace plan.now.place }
     requires peers { length plan.now.peers.items ≤ 15 }
     requires rounds { plan.now.rounds ≤ 1000000 }
-    ensures ends { ServerEnds G.Gate G.Link.Duplex.own G.Link.Sink D.Dial D.Link.Duplex.own D.Link.Sink O.Sink gate.old gate.new dial.old dial.new output.old output.new
+    ensures ends { ServerEnds A.opened G.Gate G.Link.Duplex.own G.Link.Sink D.Dial D.Link.Duplex.own D.Link.Sink O.Sink gate.old gate.new dial.old dial.new output.old output.new
         (site_at plan.now.place) (program_limits plan.now.place.sites).max_trail (work_of (serving_of plan.now)) result }
     ensures write { CausedBy Status.WriteFault (O.faults output.old) (O.faults output.new) result }
     ensures gate { CausedBy Status.GateFault (G.faults gate.old) (G.faults gate.new) result }
@@ -43,7 +50,7 @@ pub(crate) fn serve_plan<O: Sink, G: Gate, D: Dial + Send, R: Threads + Wait + S
         rounds: plan.rounds,
         tidy: plan.tidy,
     };
-    serve(
+    serve::<A, O, G, D, R>(
         alloc,
         rt,
         keys,

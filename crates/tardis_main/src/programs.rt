@@ -15,6 +15,7 @@ ghost use Rattle.tardis_main.specs.Program.{Audits, Autos, Durables, Exports, Im
 
 use crate::helps::{USAGE, VERSION, help_text};
 use crate::tardis;
+use any_site::AnySite;
 use command_words::{Help, commands_are_at_a_site, help_of, words_behind_name};
 use disk_store::Store;
 use std::alloc::Global;
@@ -25,9 +26,17 @@ use std::thread::Threads;
 use tardis_base::NoMemory;
 use tardis_io::{Dial, Gate, Sink, Source, Status, WriteFault, write_all};
 
-/// Carries out the command that a program's arguments name, of which the first is the program's name: it tells of itself
+/// Carries out the command that a program's arguments name, by sites of this kind. The first argument is the program's name: it tells of itself
 /// for `--help` and `--version`, and is `tardis` for other words.
-pub fn carry_out<I: Source, O: Sink, G: Gate, D: Dial + Send, S: Store, R: Threads + Wait + Sync>(
+pub fn carry_out<
+    A: AnySite + Send,
+    I: Source,
+    O: Sink,
+    G: Gate,
+    D: Dial + Send,
+    S: Store,
+    R: Threads + Wait + Sync,
+>(
     alloc: Global,
     rt: &R,
     keys: RandomState,
@@ -64,7 +73,7 @@ pub fn carry_out<I: Source, O: Sink, G: Gate, D: Dial + Send, S: Store, R: Threa
         (map (λ w. string_bytes w) (drop 1 (into_iter_items args))) result }
     ensures load { Loads I.Source O.Sink input.old input.new output.old output.new
         (map (λ w. string_bytes w) (drop 1 (into_iter_items args))) result }
-    ensures serve { Serves G.Gate G.Link.Duplex.own G.Link.Sink D.Dial D.Link.Duplex.own D.Link.Sink O.Sink gate.old gate.new dial.old dial.new output.old output.new
+    ensures serve { Serves A.opened G.Gate G.Link.Duplex.own G.Link.Sink D.Dial D.Link.Duplex.own D.Link.Sink O.Sink gate.old gate.new dial.old dial.new output.old output.new
         (map (λ w. string_bytes w) (drop 1 (into_iter_items args))) result }
     ensures durable { Durables I.Source O.Sink S.Store S.Disk.Disk store.old store.new input.old input.new output.old output.new (map (λ w. string_bytes w) (drop 1 (into_iter_items args))) result }
     ensures unstored { ((place : Place) (path : List ℕ) → AreDurable (map (λ w. string_bytes w) (drop 1 (into_iter_items args))) place path → ⊥)
@@ -79,7 +88,7 @@ pub fn carry_out<I: Source, O: Sink, G: Gate, D: Dial + Send, S: Store, R: Threa
     ensures disk { CausedBy Status.DiskFault (S.faults store.old) (S.faults store.new) result }
 {
     match words_behind_name(alloc, args) {
-        Ok(words) => command(
+        Ok(words) => command::<A, I, O, G, D, S, R>(
             alloc,
             rt,
             keys,
@@ -98,7 +107,15 @@ pub fn carry_out<I: Source, O: Sink, G: Gate, D: Dial + Send, S: Store, R: Threa
 }
 
 /// Carries out the command that the words name.
-fn command<I: Source, O: Sink, G: Gate, D: Dial + Send, S: Store, R: Threads + Wait + Sync>(
+fn command<
+    A: AnySite + Send,
+    I: Source,
+    O: Sink,
+    G: Gate,
+    D: Dial + Send,
+    S: Store,
+    R: Threads + Wait + Sync,
+>(
     alloc: Global,
     rt: &R,
     keys: RandomState,
@@ -131,7 +148,7 @@ fn command<I: Source, O: Sink, G: Gate, D: Dial + Send, S: Store, R: Threads + W
     ensures export { Exports I.Source O.Sink input.old input.new output.old output.new (map (λ w. string_bytes w) words.now) result }
     ensures import { Imports I.Source O.Sink input.old input.new output.old output.new (map (λ w. string_bytes w) words.now) result }
     ensures load { Loads I.Source O.Sink input.old input.new output.old output.new (map (λ w. string_bytes w) words.now) result }
-    ensures serve { Serves G.Gate G.Link.Duplex.own G.Link.Sink D.Dial D.Link.Duplex.own D.Link.Sink O.Sink gate.old gate.new dial.old dial.new output.old output.new
+    ensures serve { Serves A.opened G.Gate G.Link.Duplex.own G.Link.Sink D.Dial D.Link.Duplex.own D.Link.Sink O.Sink gate.old gate.new dial.old dial.new output.old output.new
         (map (λ w. string_bytes w) words.now) result }
     ensures durable { Durables I.Source O.Sink S.Store S.Disk.Disk store.old store.new input.old input.new output.old output.new (map (λ w. string_bytes w) words.now) result }
     ensures unstored { ((place : Place) (path : List ℕ) → AreDurable (map (λ w. string_bytes w) words.now) place path → ⊥) → store.new ≡ store.old }
@@ -145,7 +162,9 @@ fn command<I: Source, O: Sink, G: Gate, D: Dial + Send, S: Store, R: Threads + W
 {
     match help_of(words) {
         Some(help) => tell(help, output),
-        None => tardis(alloc, rt, keys, words, input, output, gate, dial, store),
+        None => tardis::<A, I, O, G, D, S, R>(
+            alloc, rt, keys, words, input, output, gate, dial, store,
+        ),
     }
 }
 

@@ -155,13 +155,13 @@ pub returns-in-Ok-Serve-clause-serve : goal.returns-in-Ok-Serve-clause-serve
 returns-in-Ok-Serve-clause-serve g c = λ plan are.
     let read = c.in-Ok-Serve.ensures.form ∙ ap (λ command. Some (form_of command)) c.in-Ok-Serve.field-0-is in
     let same : serving_of c.in-Ok-Serve.plan ≡ plan = serve_same (serving_of c.in-Ok-Serve.plan) plan (sym read ∙ are) in
-    subst (λ p. ServerEnds g.G.Gate g.G.Link.Duplex g.G.Link.Sink g.D.Dial g.D.Link.Duplex g.D.Link.Sink g.O.Sink
+    subst (λ p. ServerEnds g.A.AnySite.opened g.G.Gate g.G.Link.Duplex g.G.Link.Sink g.D.Dial g.D.Link.Duplex g.D.Link.Sink g.O.Sink
     c.args.gate.now c.serve_plan.new.gate c.args.dial.now c.serve_plan.new.dial c.args.output.now c.serve_plan.new.output
     (site_at p.place) (program_limits p.place.sites).max_trail (work_of p) c.serve_plan.result) same c.serve_plan.ensures.ends
 
 pub returns-in-Err-NoMemory-clause-serve : goal.returns-in-Err-NoMemory-clause-serve
 returns-in-Err-NoMemory-clause-serve g c = λ plan are.
-    no_server g.G.Gate g.G.Link.Duplex g.G.Link.Sink g.D.Dial g.D.Link.Duplex g.D.Link.Sink g.O.Sink
+    no_server g.A.AnySite.opened g.G.Gate g.G.Link.Duplex g.G.Link.Sink g.D.Dial g.D.Link.Duplex g.D.Link.Sink g.O.Sink
     c.args.gate.now c.args.dial.now c.args.output.now
     (site_at plan.place) (program_limits plan.place.sites).max_trail (work_of plan)
 

@@ -10,7 +10,7 @@ returns-clause-ends g c =
     let plan = c.args.plan.now in
     let same : map (λ w. string_bytes w) c.as_slice-peers.result.now ≡ map (λ w. string_bytes w) plan.peers.items = ap (map (λ w. string_bytes w))
     c.as_slice-peers.ensures.value in
-    subst (λ (l : Limits). ServerEnds g.G.Gate g.G.Link.Duplex g.G.Link.Sink g.D.Dial g.D.Link.Duplex g.D.Link.Sink g.O.Sink
+    subst (λ (l : Limits). ServerEnds g.A.AnySite.opened g.G.Gate g.G.Link.Duplex g.G.Link.Sink g.D.Dial g.D.Link.Duplex g.D.Link.Sink g.O.Sink
     c.args.gate.now c.serve.new.gate c.args.dial.now c.serve.new.dial c.args.output.now c.serve.new.output
     (opening l plan.place.site) l.max_trail (record {
       links = plan.links;
@@ -20,7 +20,7 @@ returns-clause-ends g c =
       tidy = plan.tidy;
     }) c.serve.result)
     c.limits.ensures.limits
-    (subst (λ n. ServerEnds g.G.Gate g.G.Link.Duplex g.G.Link.Sink g.D.Dial g.D.Link.Duplex g.D.Link.Sink g.O.Sink
+    (subst (λ n. ServerEnds g.A.AnySite.opened g.G.Gate g.G.Link.Duplex g.G.Link.Sink g.D.Dial g.D.Link.Duplex g.D.Link.Sink g.O.Sink
     c.args.gate.now c.serve.new.gate c.args.dial.now c.serve.new.dial c.args.output.now c.serve.new.output
     (opening c.limits.result plan.place.site) c.limits.result.max_trail (record { links = plan.links; peers = n; rounds = plan.rounds; tidy = plan.tidy })
     c.serve.result)

@@ -83,7 +83,7 @@ returns-in-Err-clause-load g c = λ start steps are.
 
 pub returns-in-Err-clause-serve : goal.returns-in-Err-clause-serve
 returns-in-Err-clause-serve g c = λ plan are.
-    no_server g.G.Gate g.G.Link.Duplex g.G.Link.Sink g.D.Dial g.D.Link.Duplex g.D.Link.Sink g.O.Sink
+    no_server g.A.AnySite.opened g.G.Gate g.G.Link.Duplex g.G.Link.Sink g.D.Dial g.D.Link.Duplex g.D.Link.Sink g.O.Sink
     c.args.gate.now c.args.dial.now c.args.output.now
     (site_at plan.place) (program_limits plan.place.sites).max_trail (work_of plan)
 
