@@ -1,6 +1,7 @@
 //! A program over devices in memory, by its arguments.
 
 use crate::devices::{Streams, no_peer, nobody, streams_over};
+use session_core::SiteCore;
 use std::alloc::Global;
 use std::env::Args;
 use std::hash::RandomState;
@@ -74,7 +75,7 @@ fn carried_out<G: Gate, D: Dial + Send, R: Threads + Wait + Sync>(
     gate: &mut G,
     dial: &mut D,
 ) -> Status {
-    carry_out(
+    carry_out::<SiteCore, _, _, _, _, _, _>(
         alloc,
         rt,
         keys,

@@ -2,6 +2,7 @@
 
 use crate::devices::{Streams, no_peer, streams_over};
 use crate::programs::{Ran, ended, keys, words_of};
+use session_core::SiteCore;
 use std::alloc::Global;
 use std::hash::RandomState;
 use std::process::Abort;
@@ -21,7 +22,7 @@ fn carried_out<G: Gate, D: Dial + Send, R: Threads + Wait + Sync>(
     gate: &mut G,
     dial: &mut D,
 ) -> Status {
-    tardis(
+    tardis::<SiteCore, _, _, _, _, _, _>(
         alloc,
         rt,
         keys,

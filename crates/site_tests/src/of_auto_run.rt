@@ -9,6 +9,7 @@ use crate::sites::{LIMITS, an_input, an_output, keys};
 use auto_run::auto;
 use memory_io::{MemorySink, MemorySource};
 use rule_list::{RuleList, read_rules};
+use session_core::SiteCore;
 use std::alloc::Global;
 use std::hash::RandomState;
 use std::process::Abort;
@@ -55,7 +56,7 @@ fn ends(
     source: &mut MemorySource,
     sink: &mut MemorySink,
 ) -> Status {
-    auto(alloc, keys, LIMITS, 1, rules, source, sink)
+    auto::<SiteCore, _, _>(alloc, keys, LIMITS, 1, rules, source, sink)
 }
 
 /// Whether the command with these rules answers the lines so.

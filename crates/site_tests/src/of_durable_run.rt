@@ -11,6 +11,7 @@ use disk_store::{Disk, Store};
 use durable_run::{durable, run_site_on};
 use memory_disks::MemoryDisk;
 use memory_io::{MemorySink, MemorySource};
+use session_core::SiteCore;
 use std::alloc::Global;
 use std::process::Abort;
 use std::random::RandomSource;
@@ -29,7 +30,7 @@ fn ran<R: RandomSource + Abort, S: Store, I: Source, O: Sink>(
     requires limits { IsTrue (are_limits limits) }
     requires sites { 1 ≤ limits.sites }
 {
-    durable(alloc, keys(rt), limits, 1, PATH, store, source, sink)
+    durable::<SiteCore, _, _, _>(alloc, keys(rt), limits, 1, PATH, store, source, sink)
 }
 
 /// Whether a durable site with these limits, in a store of an empty disk, writes this output, and puts a disk back that

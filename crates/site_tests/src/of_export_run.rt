@@ -5,6 +5,7 @@ use crate::talks::{bytes_of, copied, put, put_frame};
 use branch_export::run_import;
 use export_run::export;
 use memory_io::{MemorySink, MemorySource};
+use session_core::SiteCore;
 use std::alloc::Global;
 use std::hash::RandomState;
 use std::process::Abort;
@@ -63,7 +64,7 @@ fn export_ends(
 ) -> Status {
     let site = if sequence == 0 { 0 } else { 1 };
     let state = StateId { site, sequence };
-    export(alloc, keys, LIMITS, 1, state, source, sink)
+    export::<SiteCore, _, _>(alloc, keys, LIMITS, 1, state, source, sink)
 }
 
 /// What it comes to over these frames, where these takes fail.

@@ -1,6 +1,7 @@
 use crate::sites::{an_output, keys};
 use load_run::run_load;
 use memory_io::MemorySink;
+use session_core::SiteCore;
 use std::alloc::Global;
 use std::hash::RandomState;
 use std::process::Abort;
@@ -38,7 +39,7 @@ const LINES: [(u32, u32, &str); 5] = [
 
 /// How a load by these numbers ends over this output.
 fn ends(alloc: Global, keys: RandomState, start: u32, steps: u32, sink: &mut MemorySink) -> Status {
-    run_load(alloc, keys, start, steps, sink)
+    run_load::<SiteCore, _>(alloc, keys, start, steps, sink)
 }
 
 /// Whether it writes this line.

@@ -15,6 +15,7 @@ use crate::rows::{
 };
 use crate::sites::{LIMITS, an_input, an_output, keys};
 use memory_io::{MemorySink, MemorySource};
+use session_core::SiteCore;
 use site_commands::shell;
 use std::alloc::Global;
 use std::hash::RandomState;
@@ -33,7 +34,7 @@ fn ends(
 ) -> Status {
     assert!(rt; limits.valid());
     assert!(rt; 1 <= limits.sites);
-    shell(alloc, keys, limits, 1, source, sink)
+    shell::<SiteCore, _, _>(alloc, keys, limits, 1, source, sink)
 }
 
 /// Whether the shell answers the lines so.

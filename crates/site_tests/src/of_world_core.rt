@@ -2,6 +2,7 @@ use crate::sites::{an_input, an_output, keys};
 use crate::talks::{bytes_of, put_frame};
 use crate::world_rows::{HALF_LOST, NOT_THERE, SHARED_CART};
 use memory_io::{MemorySink, MemorySource};
+use session_core::SiteCore;
 use std::alloc::Global;
 use std::hash::RandomState;
 use std::process::Abort;
@@ -61,7 +62,7 @@ fn ends(
     source: &mut MemorySource,
     sink: &mut MemorySink,
 ) -> Status {
-    run_world(alloc, keys, sites.clamp(1, 16), source, sink)
+    run_world::<SiteCore, _, _>(alloc, keys, sites.clamp(1, 16), source, sink)
 }
 
 /// Whether a world of so many sites answers so.

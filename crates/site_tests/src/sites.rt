@@ -2,6 +2,7 @@
 
 use crate::talks::Talk;
 use memory_io::{MemorySink, MemorySource};
+use session_core::SiteCore;
 use site_commands::run;
 use std::alloc::Global;
 use std::hash::RandomState;
@@ -53,7 +54,7 @@ fn ends(
     assert!(rt; limits.valid());
     assert!(rt; 1 <= own);
     assert!(rt; own <= limits.sites);
-    run(alloc, keys, limits, own, source, sink)
+    run::<SiteCore, _, _>(alloc, keys, limits, own, source, sink)
 }
 
 /// Whether the site of this number, with these limits, gives this output for this input.
