@@ -7,6 +7,7 @@ ghost use Rattle.site_commands.specs.Ends.{CausedBy};
 ghost use Rattle.durable_run.specs.Commands.{DurableEnds, PromptEnds};
 
 use crate::site_runs::run_site_on_device;
+use any_site::AnySite;
 use disk_store::Store;
 use std::alloc::Global;
 use std::hash::RandomState;
@@ -19,7 +20,7 @@ use tardis_io::{Duplex, Failed, Pair, Sink, Source, Status};
 ///
 /// `Status::DiskFault` says that the file couldn't be opened, or that its disk failed: then nothing is lost that was answered, and
 /// the command may be started again on the same file. What is promised is described in `docs/DURABLE.md`.
-pub fn durable<S: Store, I: Source, O: Sink>(
+pub fn durable<A: AnySite, S: Store, I: Source, O: Sink>(
     alloc: Global,
     keys: RandomState,
     limits: Limits,
@@ -37,7 +38,7 @@ pub fn durable<S: Store, I: Source, O: Sink>(
     ensures read { CausedBy Status.ReadFault (I.faults input.old) (I.faults input.new) result }
     ensures write { CausedBy Status.WriteFault (O.faults output.old) (O.faults output.new) result }
 {
-    durable_device(
+    durable_device::<A, _, _>(
         alloc,
         keys,
         limits,
@@ -49,7 +50,7 @@ pub fn durable<S: Store, I: Source, O: Sink>(
 }
 
 /// The same over one device. Before each take all frames in the bytes taken so far were answered, and all answers given.
-pub fn durable_device<S: Store, D: Duplex>(
+pub fn durable_device<A: AnySite, S: Store, D: Duplex>(
     alloc: Global,
     keys: RandomState,
     limits: Limits,
@@ -70,7 +71,9 @@ pub fn durable_device<S: Store, D: Duplex>(
 {
     match store.open_file(path) {
         Ok(disk) => {
-            let (status, disk) = run_site_on_device(alloc, keys, limits, own, disk, device);
+            let (status, disk) = run_site_on_device::<A, _, _>(
+                alloc, keys, limits, own, disk, device,
+            );
             store.put_back(disk);
             status
         }

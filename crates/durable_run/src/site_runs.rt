@@ -12,8 +12,8 @@ ghost use Rattle.durable_run.specs.Ends.{RanOn, RanPromptly, NotOpened, source_o
 ghost use Rattle.durable_run.specs.Turns.{Ended};
 
 use crate::runs::{run_durable, run_durable_device};
+use any_site::{AnySite, SiteMachine};
 use disk_store::Disk;
-use site_commands::open_site;
 use std::alloc::Global;
 use std::hash::RandomState;
 use tardis_base::{Limits, NoMemory};
@@ -21,7 +21,7 @@ use tardis_io::{Duplex, Sink, Source, Status};
 
 /// Runs the site of this number, with these limits, over the journal on a disk, which comes back with the status. The journal may
 /// have at most as many bytes as its limits allow a trail. Keys are found by hashing with this seed.
-pub fn run_site_on<K: Disk, I: Source, O: Sink>(
+pub fn run_site_on<A: AnySite, K: Disk, I: Source, O: Sink>(
     alloc: Global,
     keys: RandomState,
     limits: Limits,
@@ -46,14 +46,14 @@ pub fn run_site_on<K: Disk, I: Source, O: Sink>(
     ensures write_later { O.faults output.old ≤ O.faults output.new }
     ensures nothing { result.0 ≡ Status.NoMemory → (input.new ≡ input.old) × (output.new ≡ output.old) }
 {
-    match open_site(alloc, keys, limits, own) {
+    match SiteMachine::<A>::open(alloc, keys, limits, own) {
         Ok(site) => run_durable(alloc, site, disk, limits.max_trail, input, output),
         Err(NoMemory) => (Status::NoMemory, disk),
     }
 }
 
 /// The same over one device. Before each take all frames in the bytes taken so far were answered, and all answers given.
-pub fn run_site_on_device<K: Disk, D: Duplex>(
+pub fn run_site_on_device<A: AnySite, K: Disk, D: Duplex>(
     alloc: Global,
     keys: RandomState,
     limits: Limits,
@@ -76,7 +76,7 @@ pub fn run_site_on_device<K: Disk, D: Duplex>(
     ensures nothing { result.0 ≡ Status.NoMemory → device.new ≡ device.old }
     ensures parts { D.parts device.new ≡ D.parts device.old }
 {
-    match open_site(alloc, keys, limits, own) {
+    match SiteMachine::<A>::open(alloc, keys, limits, own) {
         Ok(site) => run_durable_device(alloc, site, disk, limits.max_trail, device),
         Err(NoMemory) => (Status::NoMemory, disk),
     }

@@ -2,6 +2,5 @@
 pub mod FrameRuns
 pub mod LineRuns
 pub mod NoMemory
-mod Openings
 mod Servers
 mod Counting

@@ -20,7 +20,6 @@ use Rattle.serve_pool.specs.declared.ends.PoolEnd.TheVariants.{Done as AllServed
 use Rattle.serve_run.specs.declared.endings.ServeEnd.{ServeEnd}
 use Rattle.serve_run.specs.declared.endings.ServeEnd.TheVariants.{NotBound, NotMade, Served}
 use Rattle.serve_run.specs.Serving.{Workload, ServeOutcome}
-use Rattle.session_core.specs.Machine.{opened_with}
 use Rattle.plain_site.specs.Site.{Site}
 use Rattle.plain_site.specs.Step.{site_machine}
 
@@ -77,14 +76,14 @@ status_after NotBound = GateFault
 status_after NotMade = NoMemory
 status_after (Served s) = if nat_lt 0 s.unserved || rounds_lack_memory s.rounds then NoMemory else status_served s.gate s.written (has_dial_fault s.rounds)
 
-module _ {L G X D O : Type 0} (g : AGate G L) (l : ADuplex L) (gives : ASink L) (d : ADial D X) (x : ADuplex X) (dialled : ASink X) (o : ASink O)
-    (gate gate_now : G) (dial dial_now : D) (before after : O) where
+module _ {M L G X D O : Type 0} (opened : M → Site) (g : AGate G L) (l : ADuplex L) (gives : ASink L) (d : ADial D X) (x : ADuplex X) (dialled : ASink X)
+    (o : ASink O) (gate gate_now : G) (dial dial_now : D) (before after : O) where
   -- How a server with this work ends, whose lock opens with this plain site and whose trail has room for so many bytes. Its
   -- status is that of its end. Where neither the gate nor the dial nor the output counted a fault, all is well or there was
   -- no memory.
   pub record ServerEnds (site : Site) (max_trail : ℕ) (work : Workload) (status : Status) : Type 0 where
     pub end : ServeEnd
-    pub outcome : ServeOutcome opened_with site_machine l.left gives.given l.take_faults gives.faults x.left dialled.given x.take_faults dialled.faults
+    pub outcome : ServeOutcome opened site_machine l.left gives.given l.take_faults gives.faults x.left dialled.given x.take_faults dialled.faults
         d.told d.faults site max_trail g.told g.faults o.given o.faults work gate gate_now dial dial_now before after end
     pub judged : status ≡ status_after end
     pub complete : (Rose (g.faults gate) (g.faults gate_now) → ⊥) → (Rose (d.faults dial) (d.faults dial_now) → ⊥)

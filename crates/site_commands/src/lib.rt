@@ -8,10 +8,8 @@ mod counts;
 mod lines;
 mod runs;
 mod serves;
-mod sites;
 
 pub use counts::sites_tell_counts;
 pub use lines::{audit_frames, shell};
 pub use runs::run;
 pub use serves::serve;
-pub use sites::open_site;

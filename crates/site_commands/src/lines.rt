@@ -6,7 +6,7 @@ ghost use Rattle.plain_site.specs.Site.{opening};
 ghost use Rattle.site_commands.specs.Ends.{CausedBy, FramesEnd, LinesEnd};
 ghost use Rattle.site_commands.specs.Runs.{AuditFrom, ShellFrom};
 
-use session_core::SiteCore;
+use any_site::{AnySite, SiteMachine};
 use shell_run::{audit, run_shell};
 use std::alloc::Global;
 use std::hash::RandomState;
@@ -14,7 +14,7 @@ use tardis_base::{Limits, NoMemory};
 use tardis_io::{Sink, Source, Status};
 
 /// Answers lines of requests by lines of the replies of the site of this number, with these limits.
-pub fn shell<I: Source, O: Sink>(
+pub fn shell<A: AnySite, I: Source, O: Sink>(
     alloc: Global,
     keys: RandomState,
     limits: Limits,
@@ -30,18 +30,14 @@ pub fn shell<I: Source, O: Sink>(
     ensures read { CausedBy Status.ReadFault (I.faults input.old) (I.faults input.new) result }
     ensures write { CausedBy Status.WriteFault (O.faults output.old) (O.faults output.new) result }
 {
-    match SiteCore::new(alloc, keys, limits, own) {
-        Ok(mut site) => {
-            let status = run_shell(alloc, &mut site, input, output);
-            drop(site); // for the proof alone
-            status
-        }
+    match SiteMachine::<A>::open(alloc, keys, limits, own) {
+        Ok(mut site) => run_shell(alloc, &mut site, input, output),
         Err(NoMemory) => Status::NoMemory,
     }
 }
 
 /// Tells, in a line each, what frames ask and what the site of this number, with these limits, replies.
-pub fn audit_frames<I: Source, O: Sink>(
+pub fn audit_frames<A: AnySite, I: Source, O: Sink>(
     alloc: Global,
     keys: RandomState,
     limits: Limits,
@@ -57,12 +53,8 @@ pub fn audit_frames<I: Source, O: Sink>(
     ensures read { CausedBy Status.ReadFault (I.faults input.old) (I.faults input.new) result }
     ensures write { CausedBy Status.WriteFault (O.faults output.old) (O.faults output.new) result }
 {
-    match SiteCore::new(alloc, keys, limits, own) {
-        Ok(mut site) => {
-            let status = audit(alloc, &mut site, input, output);
-            drop(site); // for the proof alone
-            status
-        }
+    match SiteMachine::<A>::open(alloc, keys, limits, own) {
+        Ok(mut site) => audit(alloc, &mut site, input, output),
         Err(NoMemory) => Status::NoMemory,
     }
 }

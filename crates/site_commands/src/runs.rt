@@ -6,7 +6,7 @@ ghost use Rattle.plain_site.specs.Site.{opening};
 ghost use Rattle.site_commands.specs.Runs.{RunFrom};
 ghost use Rattle.site_commands.specs.Ends.{CausedBy, FramesEnd};
 
-use session_core::SiteCore;
+use any_site::{AnySite, SiteMachine};
 use site_run::run_site;
 use std::alloc::Global;
 use std::hash::RandomState;
@@ -17,7 +17,7 @@ use tardis_io::{Sink, Source, Status};
 /// Answers frames of requests by frames of the replies of the site of this number, with these limits.
 ///
 /// Keys are found by hashing with this seed. The site's memory isn't given back piece by piece: a program that ran one ends then.
-pub fn run<I: Source, O: Sink>(
+pub fn run<A: AnySite, I: Source, O: Sink>(
     alloc: Global,
     keys: RandomState,
     limits: Limits,
@@ -33,7 +33,7 @@ pub fn run<I: Source, O: Sink>(
     ensures read { CausedBy Status.ReadFault (I.faults input.old) (I.faults input.new) result }
     ensures write { CausedBy Status.WriteFault (O.faults output.old) (O.faults output.new) result }
 {
-    match SiteCore::new(alloc, keys, limits, own) {
+    match SiteMachine::<A>::open(alloc, keys, limits, own) {
         Ok(mut site) => {
             let status = run_site(alloc, &mut site, input, output);
             mem::forget(site); // the program ends, and gives all memory back at once

@@ -4,12 +4,11 @@ ghost use Rattle.std.specs.Prelude.{◌≡◌, ◌≤◌, IsTrue, length};
 ghost use Rattle.tardis_base.specs.Valid.{are_limits};
 ghost use Rattle.plain_site.specs.Site.{opening};
 ghost use Rattle.plain_site.specs.Step.{site_machine};
-ghost use Rattle.session_core.specs.Machine.{opened_with};
 ghost use Rattle.serve_run.specs.Serving.{ServeOutcome, workload};
 ghost use Rattle.site_commands.specs.Ends.{CausedBy, ServerEnds, has_dial_fault, rounds_lack_memory, status_after, status_served};
 
 use crate::counts::sites_tell_counts;
-use crate::sites::open_site;
+use any_site::{AnySite, SiteMachine};
 use serve_pool::PoolEnd;
 use serve_run::{ServeEnd, ServeOptions, serve_links};
 use site_sync::Rounds;
@@ -25,7 +24,7 @@ use tardis_io::{Dial, Gate, Sink, Status, WriteFault};
 /// one more.
 ///
 /// Keys are found by hashing with this seed.
-pub fn serve<O: Sink, G: Gate, D: Dial + Send, R: Threads + Wait + Sync>(
+pub fn serve<A: AnySite + Send, O: Sink, G: Gate, D: Dial + Send, R: Threads + Wait + Sync>(
     alloc: Global,
     rt: &R,
     keys: RandomState,
@@ -41,17 +40,19 @@ pub fn serve<O: Sink, G: Gate, D: Dial + Send, R: Threads + Wait + Sync>(
     requires last { own ≤ limits.sites }
     requires peers { length options.peers.now ≤ 15 }
     requires rounds { options.rounds ≤ 1000000 }
-    ensures ends { ServerEnds G.Gate G.Link.Duplex.own G.Link.Sink D.Dial D.Link.Duplex.own D.Link.Sink O.Sink gate.old gate.new dial.old dial.new output.old output.new
+    ensures ends { ServerEnds A.opened G.Gate G.Link.Duplex.own G.Link.Sink D.Dial D.Link.Duplex.own D.Link.Sink O.Sink gate.old gate.new dial.old dial.new output.old output.new
         (opening limits own) limits.max_trail (workload options.entry) result }
     ensures write { CausedBy Status.WriteFault (O.faults output.old) (O.faults output.new) result }
     ensures gate { CausedBy Status.GateFault (G.faults gate.old) (G.faults gate.new) result }
     ensures dial { CausedBy Status.DialFault (D.faults dial.old) (D.faults dial.new) result }
 {
-    status_of(serve_site(alloc, rt, keys, limits, own, options, gate, dial, output))
+    status_of(serve_site::<A, _, _, _, _>(
+        alloc, rt, keys, limits, own, options, gate, dial, output,
+    ))
 }
 
 /// The same, up to its end. The site is made before the gate is asked to listen.
-fn serve_site<O: Sink, G: Gate, D: Dial + Send, R: Threads + Wait + Sync>(
+fn serve_site<A: AnySite + Send, O: Sink, G: Gate, D: Dial + Send, R: Threads + Wait + Sync>(
     alloc: Global,
     rt: &R,
     keys: RandomState,
@@ -67,12 +68,12 @@ fn serve_site<O: Sink, G: Gate, D: Dial + Send, R: Threads + Wait + Sync>(
     requires last { own ≤ limits.sites }
     requires peers { length options.peers.now ≤ 15 }
     requires rounds { options.rounds ≤ 1000000 }
-    ensures { ServeOutcome opened_with site_machine G.Link.left G.Link.given G.Link.take_faults G.Link.faults
+    ensures { ServeOutcome A.opened site_machine G.Link.left G.Link.given G.Link.take_faults G.Link.faults
         D.Link.left D.Link.given D.Link.take_faults D.Link.faults D.told D.faults (opening limits own) limits.max_trail
         G.told G.faults O.given O.faults (workload options.entry) gate.old gate.new dial.old dial.new output.old output.new result }
 {
     sites_tell_counts();
-    match open_site(alloc, keys, limits, own) {
+    match SiteMachine::<A>::open(alloc, keys, limits, own) {
         Ok(site) => serve_links(
             alloc,
             rt,

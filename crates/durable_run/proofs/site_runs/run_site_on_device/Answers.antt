@@ -1,9 +1,13 @@
-use Rattle.std.proofs.Common.{◌⊎◌, inl, subst}
+use Rattle.std.proofs.Common.{◌⊎◌, inl, sym, subst}
 use Rattle.plain_site.specs.Step.{site_machine}
 use Rattle.durable_run.specs.Ends.{RanPromptly, NotOpened, source_of}
 use Rattle.tardis_io.specs.Faults.{Rose}
 use Rattle.durable_run.proofs.Running.{no_buffers, ended_none, exact_memory}
 use Rattle.durable_run.proofs.site_runs.run_site_on_device.Goals as goal
+
+pub run_durable_device-requires-clause-opening : goal.run_durable_device-requires-clause-opening
+run_durable_device-requires-clause-opening g c =
+    subst (λ s. g.A.AnySite.stands c.in-Ok.site s) (sym c.in-Ok.ensures.opened) c.in-Ok.ensures.stands
 
 pub returns-in-Ok-clause-outcome : goal.returns-in-Ok-clause-outcome
 returns-in-Ok-clause-outcome g c =

@@ -2,7 +2,6 @@ use Rattle.tardis_io.proofs.Told.{weaker}
 use Rattle.tardis_io.specs.declared.statuses.Status.TheVariants.{NoMemory}
 use Rattle.plain_site.specs.Site.{opening}
 use Rattle.plain_site.specs.Step.{site_machine}
-use Rattle.session_core.specs.Machine.{SiteStands}
 use Rattle.shell_run.specs.Outcomes.{AuditOutcome}
 use Rattle.site_commands.specs.Runs.{AuditFrom}
 use Rattle.site_commands.proofs.NoMemory.{no_frames}
@@ -13,19 +12,19 @@ use Rattle.site_commands.proofs.lines.audit_frames.Goals as goal
 pub returns-in-Ok-clause-ends : goal.returns-in-Ok-clause-ends
 returns-in-Ok-clause-ends g c =
     let site = opening c.args.limits c.args.own in
-    let status = c.audit-status.result in
+    let status = c.audit.result in
     let old = g.O.Sink.given c.args.output.now in
-    let new = g.O.Sink.given c.audit-status.new.output in
+    let new = g.O.Sink.given c.audit.new.output in
     record {
-      outcome = weaker (g.I.Source.left c.args.input.now) (g.I.Source.left c.audit-status.new.input)
-          (AuditOutcome site_machine status (SiteStands c.in-Ok.site) (SiteStands c.audit-status.new.machine) old new)
+      outcome = weaker (g.I.Source.left c.args.input.now) (g.I.Source.left c.audit.new.input)
+          (AuditOutcome site_machine status (g.A.AnySite.stands c.in-Ok.site) (g.A.AnySite.stands c.audit.new.machine) old new)
           (AuditFrom site status old new)
-          c.audit-status.ensures.outcome
-          (λ x y o. audit_from site (SiteStands c.in-Ok.site) (SiteStands c.audit-status.new.machine) status old new x y
-          (c.in-Ok.ensures.stands, opens c.args.limits c.args.own c.requires.limits c.requires.first c.requires.last) (λ t both. both.1) o);
-      exact = c.audit-status.ensures.exact;
-      end = c.audit-status.ensures.status;
-      nothing = λ none. let all = c.audit-status.ensures.nothing none in (all.0, all.1);
+          c.audit.ensures.outcome
+          (λ x y o. audit_from site (g.A.AnySite.stands c.in-Ok.site) (g.A.AnySite.stands c.audit.new.machine) status old new x y
+          c.in-Ok.ensures.stands (λ t stands. g.met.A.AnySite.sound c.audit.new.machine t stands) o);
+      exact = c.audit.ensures.exact;
+      end = c.audit.ensures.status;
+      nothing = λ none. let all = c.audit.ensures.nothing none in (all.0, all.1);
     }
 
 pub returns-in-Err-clause-ends : goal.returns-in-Err-clause-ends

@@ -2,7 +2,6 @@ use Rattle.tardis_io.proofs.Told.{weaker}
 use Rattle.tardis_io.specs.declared.statuses.Status.TheVariants.{NoMemory}
 use Rattle.plain_site.specs.Site.{opening}
 use Rattle.plain_site.specs.Step.{site_machine}
-use Rattle.session_core.specs.Machine.{SiteStands}
 use Rattle.shell_run.specs.Answers.{over_lines}
 use Rattle.shell_run.specs.Outcomes.{ShellOutcome}
 use Rattle.site_commands.specs.Runs.{ShellFrom}
@@ -14,19 +13,19 @@ use Rattle.site_commands.proofs.lines.shell.Goals as goal
 pub returns-in-Ok-clause-ends : goal.returns-in-Ok-clause-ends
 returns-in-Ok-clause-ends g c =
     let site = opening c.args.limits c.args.own in
-    let status = c.run_shell-status.result in
+    let status = c.run_shell.result in
     let old = g.O.Sink.given c.args.output.now in
-    let new = g.O.Sink.given c.run_shell-status.new.output in
+    let new = g.O.Sink.given c.run_shell.new.output in
     record {
-      outcome = weaker (g.I.Source.left c.args.input.now) (g.I.Source.left c.run_shell-status.new.input)
-          (ShellOutcome (over_lines site_machine) status (SiteStands c.in-Ok.site) (SiteStands c.run_shell-status.new.machine) old new)
+      outcome = weaker (g.I.Source.left c.args.input.now) (g.I.Source.left c.run_shell.new.input)
+          (ShellOutcome (over_lines site_machine) status (g.A.AnySite.stands c.in-Ok.site) (g.A.AnySite.stands c.run_shell.new.machine) old new)
           (ShellFrom site status old new)
-          c.run_shell-status.ensures.outcome
-          (λ x y o. shell_from site (SiteStands c.in-Ok.site) (SiteStands c.run_shell-status.new.machine) status old new x y
-          (c.in-Ok.ensures.stands, opens c.args.limits c.args.own c.requires.limits c.requires.first c.requires.last) (λ t both. both.1) o);
-      exact = c.run_shell-status.ensures.exact;
-      end = c.run_shell-status.ensures.status;
-      nothing = λ none. let all = c.run_shell-status.ensures.nothing none in (all.0, all.1);
+          c.run_shell.ensures.outcome
+          (λ x y o. shell_from site (g.A.AnySite.stands c.in-Ok.site) (g.A.AnySite.stands c.run_shell.new.machine) status old new x y
+          c.in-Ok.ensures.stands (λ t stands. g.met.A.AnySite.sound c.run_shell.new.machine t stands) o);
+      exact = c.run_shell.ensures.exact;
+      end = c.run_shell.ensures.status;
+      nothing = λ none. let all = c.run_shell.ensures.nothing none in (all.0, all.1);
     }
 
 pub returns-in-Err-clause-ends : goal.returns-in-Err-clause-ends

@@ -6,7 +6,6 @@ use Rattle.site_run.specs.Machines.{Answered}
 use Rattle.site_run.specs.Endings.{Outcome, shape_of}
 use Rattle.plain_site.specs.Site.{opening}
 use Rattle.plain_site.specs.Step.{site_machine}
-use Rattle.session_core.specs.Machine.{SiteStands}
 use Rattle.site_commands.specs.Runs.{RunFrom}
 use Rattle.site_commands.proofs.NoMemory.{no_frames}
 use Rattle.site_commands.proofs.FrameRuns.{run_from, no_run, opens}
@@ -20,12 +19,12 @@ returns-in-Ok-clause-ends g c =
     let new = g.O.Sink.given c.run_site-status.new.output in
     record {
       outcome = weaker (g.I.Source.left c.args.input.now) (g.I.Source.left c.run_site-status.new.input)
-          (λ first left. Outcome status (SiteStands c.in-Ok.site)
-          (λ s bodies. Answered site_machine (shape_of status) (SiteStands c.run_site-status.new.machine) old new s (map event_of bodies)) first left)
+          (λ first left. Outcome status (g.A.AnySite.stands c.in-Ok.site)
+          (λ s bodies. Answered site_machine (shape_of status) (g.A.AnySite.stands c.run_site-status.new.machine) old new s (map event_of bodies)) first left)
           (RunFrom site status old new)
           c.run_site-status.ensures.outcome
-          (λ x y o. run_from site (SiteStands c.in-Ok.site) (SiteStands c.run_site-status.new.machine) status old new x y
-          (c.in-Ok.ensures.stands, opens c.args.limits c.args.own c.requires.limits c.requires.first c.requires.last) (λ t both. both.1) o);
+          (λ x y o. run_from site (g.A.AnySite.stands c.in-Ok.site) (g.A.AnySite.stands c.run_site-status.new.machine) status old new x y
+          c.in-Ok.ensures.stands (λ t stands. g.met.A.AnySite.sound c.run_site-status.new.machine t stands) o);
       exact = c.run_site-status.ensures.exact;
       end = c.run_site-status.ensures.status;
       nothing = λ none. let all = c.run_site-status.ensures.nothing none in (all.0, all.1);

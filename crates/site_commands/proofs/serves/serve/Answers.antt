@@ -3,7 +3,6 @@ use Rattle.tardis_io.specs.Faults.{Rose}
 use Rattle.tardis_io.specs.declared.statuses.Status.TheVariants.{Ok as Well, NoMemory}
 use Rattle.plain_site.specs.Site.{opening}
 use Rattle.plain_site.specs.Step.{site_machine}
-use Rattle.session_core.specs.Machine.{opened_with}
 use Rattle.serve_run.specs.Serving.{workload}
 use Rattle.site_commands.proofs.Servers.{fails_of, gate_failed, output_failed, dial_failed, well_without_faults}
 use Rattle.site_commands.proofs.serves.serve.Goals as goal
@@ -11,7 +10,7 @@ use Rattle.site_commands.proofs.serves.serve.Goals as goal
 pub returns-clause-ends : goal.returns-clause-ends
 returns-clause-ends g c =
     let work = workload c.args.options in
-    let fails = fails_of opened_with g.G.Link.Duplex.left g.G.Link.Sink.given g.G.Link.Duplex.take_faults g.G.Link.Sink.faults g.D.Link.Duplex.left
+    let fails = fails_of g.A.AnySite.opened g.G.Link.Duplex.left g.G.Link.Sink.given g.G.Link.Duplex.take_faults g.G.Link.Sink.faults g.D.Link.Duplex.left
     g.D.Link.Sink.given g.D.Link.Duplex.take_faults g.D.Link.Sink.faults
     g.D.Dial.told g.D.Dial.faults site_machine (opening c.args.limits c.args.own) c.args.limits.max_trail g.G.Gate.told g.G.Gate.faults g.O.Sink.given
     g.O.Sink.faults
@@ -30,7 +29,7 @@ returns-clause-ends g c =
 pub returns-clause-write : goal.returns-clause-write
 returns-clause-write g c =
     let work = workload c.args.options in
-    let fails = fails_of opened_with g.G.Link.Duplex.left g.G.Link.Sink.given g.G.Link.Duplex.take_faults g.G.Link.Sink.faults g.D.Link.Duplex.left
+    let fails = fails_of g.A.AnySite.opened g.G.Link.Duplex.left g.G.Link.Sink.given g.G.Link.Duplex.take_faults g.G.Link.Sink.faults g.D.Link.Duplex.left
     g.D.Link.Sink.given g.D.Link.Duplex.take_faults g.D.Link.Sink.faults
     g.D.Dial.told g.D.Dial.faults site_machine (opening c.args.limits c.args.own) c.args.limits.max_trail g.G.Gate.told g.G.Gate.faults g.O.Sink.given
     g.O.Sink.faults
@@ -47,7 +46,7 @@ returns-clause-write g c =
 pub returns-clause-gate : goal.returns-clause-gate
 returns-clause-gate g c =
     let work = workload c.args.options in
-    let fails = fails_of opened_with g.G.Link.Duplex.left g.G.Link.Sink.given g.G.Link.Duplex.take_faults g.G.Link.Sink.faults g.D.Link.Duplex.left
+    let fails = fails_of g.A.AnySite.opened g.G.Link.Duplex.left g.G.Link.Sink.given g.G.Link.Duplex.take_faults g.G.Link.Sink.faults g.D.Link.Duplex.left
     g.D.Link.Sink.given g.D.Link.Duplex.take_faults g.D.Link.Sink.faults
     g.D.Dial.told g.D.Dial.faults site_machine (opening c.args.limits c.args.own) c.args.limits.max_trail g.G.Gate.told g.G.Gate.faults g.O.Sink.given
     g.O.Sink.faults
@@ -64,7 +63,7 @@ returns-clause-gate g c =
 pub returns-clause-dial : goal.returns-clause-dial
 returns-clause-dial g c =
     let work = workload c.args.options in
-    let fails = fails_of opened_with g.G.Link.Duplex.left g.G.Link.Sink.given g.G.Link.Duplex.take_faults g.G.Link.Sink.faults g.D.Link.Duplex.left
+    let fails = fails_of g.A.AnySite.opened g.G.Link.Duplex.left g.G.Link.Sink.given g.G.Link.Duplex.take_faults g.G.Link.Sink.faults g.D.Link.Duplex.left
     g.D.Link.Sink.given g.D.Link.Duplex.take_faults g.D.Link.Sink.faults
     g.D.Dial.told g.D.Dial.faults site_machine (opening c.args.limits c.args.own) c.args.limits.max_trail g.G.Gate.told g.G.Gate.faults g.O.Sink.given
     g.O.Sink.faults
