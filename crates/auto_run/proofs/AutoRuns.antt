@@ -3,6 +3,7 @@ use Rattle.std.proofs.Common.{◌≡◌, ℕ, List, [], ◌∷◌, ◌++◌, Opt
 use Rattle.std.proofs.lemmas.List.{append-nil}
 use Rattle.tardis_base.specs.Plain.{PlainMachine}
 use Rattle.tardis_io.specs.Told.{WhileTold}
+use Rattle.tardis_io.proofs.Told.{weaker}
 use Rattle.tardis_io.specs.declared.statuses.Status.{Status}
 use Rattle.tardis_io.specs.declared.statuses.Status.TheVariants.{NoMemory}
 use Rattle.line_cut.specs.Lines.{last_line}
@@ -107,6 +108,17 @@ auto_from site rules From To status old new first left here sound o = record {
   front = o.front;
   whole = o.whole;
 }
+
+-- of the site that opened, and the rules with it
+pub opened_from : {S : Type 0} (stands : S → Site → Type 0) (core : S) (site : Site) (rules : List PrefixRule) (seen : RuledCore S) →
+    seen ≡ record { core = core; rules = rules } → stands core site → (To : Site → Type 0) → ((t : Site) → To t → IsSound t)
+    → (status : Status) (old new first left : Option (List ℕ))
+    → WhileTold first left (AutoOutcome (over_lines site_machine) seen.rules status (stands seen.core) To old new)
+    → WhileTold first left (AutoFrom site rules status old new)
+opened_from stands core site rules seen is here To sound status old new first left told =
+    weaker first left (AutoOutcome (over_lines site_machine) rules status (stands core) To old new) (AutoFrom site rules status old new)
+    (subst (λ v. WhileTold first left (AutoOutcome (over_lines site_machine) v.rules status (stands v.core) To old new)) is told)
+    (λ x y o. auto_from site rules (stands core) To status old new x y here sound o)
 
 -- ===== No memory
 

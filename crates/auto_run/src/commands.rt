@@ -38,9 +38,7 @@ pub fn auto<A: AnySite, I: Source, O: Sink>(
     match A::open(alloc, keys, limits, own) {
         Ok(core) => {
             let mut site = RuledSite::new(core, rules);
-            let status = run_auto(alloc, &mut site, input, output);
-            drop(site); // for the proof alone
-            status
+            run_auto(alloc, &mut site, input, output)
         }
         Err(NoMemory) => Status::NoMemory,
     }
