@@ -7,11 +7,9 @@ use Rattle.plain_site.specs.Step.{site_machine}
 use Rattle.rule_list.specs.declared.rules.PrefixRule.{PrefixRule}
 use Rattle.merge_rules.specs.declared.steps.AutoEnd.{AutoEnd}
 use Rattle.merge_rules.specs.Auto.{auto_step}
-use Rattle.session_core.specs.Core.{Core}
-use Rattle.session_core.specs.Stands.{StandsForSite}
-use Rattle.session_core.specs.Machine.{SiteStands}
 use Rattle.auto_run.specs.AutoLines.{auto_actor, end_line}
 use Rattle.auto_run.specs.Answers.{AskedMay, StepAnswers}
+use Rattle.auto_run.specs.RuledCores.{RuledCore, StandsForSite}
 use Rattle.auto_run.specs.Ruled.{Ruled, RuledStands, RuledMay}
 
 -- the step was done, and its line put
@@ -39,14 +37,14 @@ wanting actor rules To site old new stands put = record {
 }
 
 -- what was answered so stands for a site still
-pub still-stands : {may : Site → List ℕ → List ℕ → Site → Type 0} {s : Site} {line old new : List ℕ} (core : Core) →
-    Responded may (SiteStands core) s line old new → StandsForSite core
-still-stands core r = record { site = r.state; stands = r.stands.0; sound = r.stands.1 }
+pub still-stands : {may : Site → List ℕ → List ℕ → Site → Type 0} {s : Site} {line old new : List ℕ} (stands : Site → Type 0) →
+    Responded may stands s line old new → StandsForSite stands
+still-stands stands r = record { site = r.state; there = r.stands }
 
-module _ (s : Ruled) (core : Core) (rules : List PrefixRule) (line old new : List ℕ) where
+module _ {S : Type 0} (stands : S → Site → Type 0) (now : RuledCore S) (s : Ruled) (line old new : List ℕ) where
   -- an auto line was answered
-  pub by_step : (actor : ℕ) → auto_actor line ≡ Some actor → s.rules ≡ rules → Responded (StepAnswers actor rules) (SiteStands core) s.site [] old new
-      → Responded RuledMay (RuledStands core rules) s line old new
+  pub by_step : (actor : ℕ) → auto_actor line ≡ Some actor → s.rules ≡ now.rules → Responded (StepAnswers actor now.rules) (stands now.core) s.site [] old new
+      → Responded RuledMay (RuledStands stands now) s line old new
   by_step actor asked is r = record {
     answer = r.answer;
     state = record s { site = r.state };
@@ -60,8 +58,8 @@ module _ (s : Ruled) (core : Core) (rules : List PrefixRule) (line old new : Lis
   }
 
   -- another line was
-  pub by_shell : auto_actor line ≡ None → s.rules ≡ rules → Responded (ShellMay (over_lines site_machine)) (SiteStands core) s.site line old new
-      → Responded RuledMay (RuledStands core rules) s line old new
+  pub by_shell : auto_actor line ≡ None → s.rules ≡ now.rules → Responded (ShellMay (over_lines site_machine)) (stands now.core) s.site line old new
+      → Responded RuledMay (RuledStands stands now) s line old new
   by_shell asked is r = record {
     answer = r.answer;
     state = record s { site = r.state };

@@ -1,5 +1,5 @@
 -- What was answered and given when a take was made, of a site with rules.
-use Rattle.std.proofs.Common.{◌≡◌, ℕ, List, [], ◌∷◌, Option, Some, None, refl, sym}
+use Rattle.std.proofs.Common.{ℕ, List, [], ◌∷◌, Option, Some, None, refl, sym}
 use Rattle.std.proofs.lemmas.List.{append-nil}
 use Rattle.std.specs.List.{AllByRecursion}
 use Rattle.tardis_io.specs.Told.{WhileTold}
@@ -11,11 +11,9 @@ use Rattle.site_run.specs.Prompt.{UpToDateLines}
 use Rattle.shell_run.specs.Answers.{over_lines}
 use Rattle.plain_site.specs.Site.{Site}
 use Rattle.plain_site.specs.Step.{site_machine}
-use Rattle.rule_list.specs.declared.rules.PrefixRule.{PrefixRule}
-use Rattle.session_core.specs.Core.{Core}
-use Rattle.session_core.specs.Machine.{SiteStands}
 use Rattle.auto_run.specs.Answers.{AutoMay}
-use Rattle.auto_run.specs.Ruled.{Ruled, RuledStands, RuledMay}
+use Rattle.auto_run.specs.RuledCores.{RuledCore}
+use Rattle.auto_run.specs.Ruled.{RuledStands, RuledMay}
 use Rattle.auto_run.specs.Outcomes.{AutoIsPrompt}
 use Rattle.auto_run.proofs.AutoRuns.{ruled, in_turn}
 
@@ -35,39 +33,39 @@ no_take None P = tt
 no_take (Some old) P = ([], (sym (append-nil old), tt))
 
 -- what was up to date of the site and its rules is so of the site
-module _ (core : Core) (rules : List PrefixRule) (old given : Option (List ℕ)) where
-  site_line : (s : Site) (lines : List (List ℕ)) → AnsweredBy RuledMay Whole (λ _. Unit {0}) old given [] [] (ruled s rules) lines
-      → AnsweredBy (AutoMay (over_lines site_machine) rules) Whole (λ _. Unit {0}) old given [] [] s lines
+module _ {S : Type 0} (stands : S → Site → Type 0) (at : RuledCore S) (old given : Option (List ℕ)) where
+  site_line : (s : Site) (lines : List (List ℕ)) → AnsweredBy RuledMay Whole (λ _. Unit {0}) old given [] [] (ruled s at.rules) lines
+      → AnsweredBy (AutoMay (over_lines site_machine) at.rules) Whole (λ _. Unit {0}) old given [] [] s lines
   unfolding ruled
   site_line s lines a = record {
     answers = a.answers;
     state = a.state.site;
-    each = in_turn rules (ruled s rules) lines a.answers a.state refl a.each;
+    each = in_turn at.rules (ruled s at.rules) lines a.answers a.state refl a.each;
     stands = tt;
     given = a.given;
   }
 
   up_to_date : (first left : List ℕ)
-      → UpToDateLines (RuledStands core rules) (λ s lines. AnsweredBy RuledMay Whole (λ _. Unit {0}) old given [] [] s lines) first left
-      → AutoIsPrompt (over_lines site_machine) rules (SiteStands core) old given first left
+      → UpToDateLines (RuledStands stands at) (λ s lines. AnsweredBy RuledMay Whole (λ _. Unit {0}) old given [] [] s lines) first left
+      → AutoIsPrompt (over_lines site_machine) at.rules (stands at.core) old given first left
   unfolding ruled
   up_to_date first left u = record {
     bodies = u.bodies;
     held = u.held;
     read = u.read;
     partial = u.partial;
-    answered = λ s f. site_line s u.bodies (u.answered (ruled s rules) (f, refl));
+    answered = λ s f. site_line s u.bodies (u.answered (ruled s at.rules) (f, refl));
   }
 
-pub auto_prompt : (core : Core) (rules : List PrefixRule) (old first : Option (List ℕ)) (before after : Option (List Moment))
-    → EachTake before after (λ moment. WhileTold first moment.left (UpToDateLines (RuledStands core rules)
+pub auto_prompt : {S : Type 0} (stands : S → Site → Type 0) (at : RuledCore S) (old first : Option (List ℕ)) (before after : Option (List Moment))
+    → EachTake before after (λ moment. WhileTold first moment.left (UpToDateLines (RuledStands stands at)
     (λ s lines. AnsweredBy RuledMay Whole (λ _. Unit {0}) old moment.given [] [] s lines)))
-    → EachTake before after (λ moment. WhileTold first moment.left (AutoIsPrompt (over_lines site_machine) rules (SiteStands core) old moment.given))
-auto_prompt core rules old first before after e =
-    each_take before after (λ moment. WhileTold first moment.left (UpToDateLines (RuledStands core rules)
+    → EachTake before after (λ moment. WhileTold first moment.left (AutoIsPrompt (over_lines site_machine) at.rules (stands at.core) old moment.given))
+auto_prompt stands at old first before after e =
+    each_take before after (λ moment. WhileTold first moment.left (UpToDateLines (RuledStands stands at)
     (λ s lines. AnsweredBy RuledMay Whole (λ _. Unit {0}) old moment.given [] [] s lines)))
-    (λ moment. WhileTold first moment.left (AutoIsPrompt (over_lines site_machine) rules (SiteStands core) old moment.given))
-    (λ moment w. weaker first moment.left (UpToDateLines (RuledStands core rules)
+    (λ moment. WhileTold first moment.left (AutoIsPrompt (over_lines site_machine) at.rules (stands at.core) old moment.given))
+    (λ moment w. weaker first moment.left (UpToDateLines (RuledStands stands at)
     (λ s lines. AnsweredBy RuledMay Whole (λ _. Unit {0}) old moment.given [] [] s lines))
-    (AutoIsPrompt (over_lines site_machine) rules (SiteStands core) old moment.given) w
-    (λ x y u. up_to_date core rules old moment.given x y u)) e
+    (AutoIsPrompt (over_lines site_machine) at.rules (stands at.core) old moment.given) w
+    (λ x y u. up_to_date stands at old moment.given x y u)) e

@@ -3,6 +3,7 @@ use Rattle.std.proofs.Common.{◌≡◌, ℕ, List, [], ◌∷◌, ◌++◌, Opt
 use Rattle.std.proofs.lemmas.List.{append-nil}
 use Rattle.tardis_base.specs.Plain.{PlainMachine}
 use Rattle.tardis_io.specs.Told.{WhileTold}
+use Rattle.tardis_io.proofs.Told.{weaker}
 use Rattle.tardis_io.specs.declared.statuses.Status.{Status}
 use Rattle.tardis_io.specs.declared.statuses.Status.TheVariants.{NoMemory}
 use Rattle.line_cut.specs.Lines.{last_line}
@@ -14,10 +15,9 @@ use Rattle.plain_site.specs.Site.{Site}
 use Rattle.plain_site.specs.Step.{site_machine}
 use Rattle.plain_site.specs.Sound.{IsSound}
 use Rattle.rule_list.specs.declared.rules.PrefixRule.{PrefixRule}
-use Rattle.session_core.specs.Core.{Core}
-use Rattle.session_core.specs.Machine.{SiteStands}
 use Rattle.auto_run.specs.AutoLines.{auto_actor}
 use Rattle.auto_run.specs.Answers.{AskedMay, AutoMay}
+use Rattle.auto_run.specs.RuledCores.{RuledCore}
 use Rattle.auto_run.specs.Ruled.{Ruled, RuledStands, RuledMay}
 use Rattle.auto_run.specs.Outcomes.{AutoOutcome, AutoFrom}
 use Rattle.auto_run.proofs.Shells.{shell_may}
@@ -36,29 +36,29 @@ in_turn rules s (line ∷ lines) (answer ∷ answers) t is p =
 in_turn rules s [] (answer ∷ answers) t is p = absurd p
 in_turn rules s (line ∷ lines) [] t is p = absurd p
 
-module _ (core now : Core) (rules later : List PrefixRule) (status : Status) (old new : Option (List ℕ)) (first left : List ℕ) where
-  site_answered : (s : Site) (lines : List (List ℕ)) → AnsweredBy RuledMay (shape_within 5242945 status) (RuledStands now later) old new [] []
-      (ruled s rules) lines
-      → AnsweredBy (AutoMay (over_lines site_machine) rules) (shape_within 5242945 status) (SiteStands now) old new [] [] s lines
+module _ {S : Type 0} (stands : S → Site → Type 0) (before after : RuledCore S) (status : Status) (old new : Option (List ℕ)) (first left : List ℕ) where
+  site_answered : (s : Site) (lines : List (List ℕ)) → AnsweredBy RuledMay (shape_within 5242945 status) (RuledStands stands after) old new [] []
+      (ruled s before.rules) lines
+      → AnsweredBy (AutoMay (over_lines site_machine) before.rules) (shape_within 5242945 status) (stands after.core) old new [] [] s lines
   unfolding ruled
   site_answered s lines a = record {
     answers = a.answers;
     state = a.state.site;
-    each = in_turn rules (ruled s rules) lines a.answers a.state refl a.each;
+    each = in_turn before.rules (ruled s before.rules) lines a.answers a.state refl a.each;
     stands = a.stands.0;
     given = a.given;
   }
 
-  pub of_site : LineOutcome status (RuledStands core rules) (λ s lines. AnsweredBy RuledMay (shape_within 5242945 status) (RuledStands now later) old new
+  pub of_site : LineOutcome status (RuledStands stands before) (λ s lines. AnsweredBy RuledMay (shape_within 5242945 status) (RuledStands stands after) old new
       [] [] s lines) first left
-      → AutoOutcome (over_lines site_machine) rules status (SiteStands core) (SiteStands now) old new first left
+      → AutoOutcome (over_lines site_machine) before.rules status (stands before.core) (stands after.core) old new first left
   unfolding ruled
   of_site o = record {
     cut = o.cut;
     last = o.last;
     held = o.held;
     read = o.read;
-    answered = λ s f. site_answered s (o.cut ++ o.last) (o.answered (ruled s rules) (f, refl));
+    answered = λ s f. site_answered s (o.cut ++ o.last) (o.answered (ruled s before.rules) (f, refl));
     ends = o.ends;
     spent = o.spent;
     front = o.front;
@@ -108,6 +108,17 @@ auto_from site rules From To status old new first left here sound o = record {
   front = o.front;
   whole = o.whole;
 }
+
+-- of the site that opened, and the rules with it
+pub opened_from : {S : Type 0} (stands : S → Site → Type 0) (core : S) (site : Site) (rules : List PrefixRule) (seen : RuledCore S) →
+    seen ≡ record { core = core; rules = rules } → stands core site → (To : Site → Type 0) → ((t : Site) → To t → IsSound t)
+    → (status : Status) (old new first left : Option (List ℕ))
+    → WhileTold first left (AutoOutcome (over_lines site_machine) seen.rules status (stands seen.core) To old new)
+    → WhileTold first left (AutoFrom site rules status old new)
+opened_from stands core site rules seen is here To sound status old new first left told =
+    weaker first left (AutoOutcome (over_lines site_machine) rules status (stands core) To old new) (AutoFrom site rules status old new)
+    (subst (λ v. WhileTold first left (AutoOutcome (over_lines site_machine) v.rules status (stands v.core) To old new)) is told)
+    (λ x y o. auto_from site rules (stands core) To status old new x y here sound o)
 
 -- ===== No memory
 

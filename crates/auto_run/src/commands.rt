@@ -8,8 +8,8 @@ ghost use Rattle.auto_run.specs.Outcomes.{AutoFrom};
 
 use crate::ruled_sites::RuledSite;
 use crate::runs::run_auto;
+use any_site::AnySite;
 use rule_list::RuleList;
-use session_core::SiteCore;
 use std::alloc::Global;
 use std::hash::RandomState;
 use tardis_base::{Limits, NoMemory};
@@ -18,7 +18,7 @@ use tardis_io::{Sink, Source, Status};
 /// Answers lines as `run_auto` does, by these rules, for the site of this number, with these limits.
 ///
 /// Keys are found by hashing with this seed.
-pub fn auto<I: Source, O: Sink>(
+pub fn auto<A: AnySite, I: Source, O: Sink>(
     alloc: Global,
     keys: RandomState,
     limits: Limits,
@@ -35,12 +35,10 @@ pub fn auto<I: Source, O: Sink>(
     ensures read { CausedBy Status.ReadFault (I.faults input.old) (I.faults input.new) result }
     ensures write { CausedBy Status.WriteFault (O.faults output.old) (O.faults output.new) result }
 {
-    match SiteCore::new(alloc, keys, limits, own) {
+    match A::open(alloc, keys, limits, own) {
         Ok(core) => {
             let mut site = RuledSite::new(core, rules);
-            let status = run_auto(alloc, &mut site, input, output);
-            drop(site); // for the proof alone
-            status
+            run_auto(alloc, &mut site, input, output)
         }
         Err(NoMemory) => Status::NoMemory,
     }

@@ -4,17 +4,16 @@ ghost use Rattle.std.specs.Prelude.{◌≡◌, ◌+◌, ◌≤◌, [], length};
 ghost use Rattle.plain_site.specs.Site.{Site};
 ghost use Rattle.site_run.specs.Responses.{Responded};
 ghost use Rattle.shell_run.specs.Outcomes.{longest_shell_line};
-ghost use Rattle.session_core.specs.Stands.{StandsForSite};
-ghost use Rattle.session_core.specs.Machine.{SiteStands, opened_with};
 ghost use Rattle.merge_rules.specs.Auto.{auto_step};
 ghost use Rattle.auto_run.specs.Answers.{StepAnswers};
+ghost use Rattle.auto_run.specs.RuledCores.{StandsForSite};
 
 use crate::auto_lines::auto_actor;
 use crate::end_lines::EndLines;
 use crate::ruled_sites::RuledSite;
+use any_site::AnySite;
 use merge_rules::auto_step;
 use rule_list::RuleList;
-use session_core::SiteCore;
 use shell_run::{MAX_SHELL_LINE, ShellReplies};
 use site_run::{Gathered, Responder};
 use std::alloc::Global;
@@ -38,20 +37,20 @@ impl AutoReplies {
 }
 
 /// Does the actor's auto step, and puts the line of how it ended behind what was gathered.
-fn put_step(
+fn put_step<A: AnySite>(
     alloc: Global,
-    core: &mut SiteCore,
+    core: &mut A,
     actor: u16,
     rules: &RuleList,
     ends: &mut EndLines,
     out: &mut Gathered,
 )
-    requires stands { StandsForSite core.old }
+    requires stands { StandsForSite (A.stands core.old) }
     requires room { length out.old.bytes + longest_shell_line ≤ out.old.room }
-    ensures answer { (site : Site) → SiteStands core.old site
-        → Responded (StepAnswers actor rules.now) (SiteStands core.new) site [] out.old.bytes out.new.bytes }
+    ensures answer { (site : Site) → A.stands core.old site
+        → Responded (StepAnswers actor rules.now) (A.stands core.new) site [] out.old.bytes out.new.bytes }
     ensures room { out.new.room ≡ out.old.room }
-    ensures opening { opened_with core.new ≡ opened_with core.old }
+    ensures opening { A.opened core.new ≡ A.opened core.old }
 {
     match auto_step(alloc, core, actor, rules) {
         Ok(end) => ends.put(end, out),
@@ -59,31 +58,34 @@ fn put_step(
     }
 }
 
-impl Responder<RuledSite> for AutoReplies {
-    ghost use Rattle.auto_run.specs.Ruled.{Ruled, RuledStands, RuledMay, ruled_opening};
+impl<A: AnySite> Responder<RuledSite<A>> for AutoReplies {
+    ghost use Rattle.auto_run.specs.Ruled.{Ruled, RuledStands, RuledMay};
 
     ghost State = { Ruled };
 
-    ghost stands = { λ t s. RuledStands t.core t.rules s };
+    ghost stands = { RuledStands A.stands };
 
     ghost may = { RuledMay };
 
-    ghost opening = { λ t. ruled_opening t.core t.rules };
+    ghost opening = { λ t. record { site = A.opened t.core; rules = t.rules } };
 
     ghost MOST = { longest_shell_line };
 
     const MOST: usize = MAX_SHELL_LINE;
 
-    fn respond(&mut self, subject: &mut RuledSite, body: &[u8], out: &mut Gathered) {
+    fn respond(&mut self, subject: &mut RuledSite<A>, body: &[u8], out: &mut Gathered) {
         match auto_actor(body) {
-            Some(actor) => put_step(
-                self.alloc,
-                &mut subject.core,
-                actor,
-                &subject.rules,
-                &mut self.ends,
-                out,
-            ),
+            Some(actor) => {
+                let core = &mut subject.core;
+                put_step(
+                    self.alloc,
+                    &mut core.site,
+                    actor,
+                    &subject.rules,
+                    &mut self.ends,
+                    out,
+                )
+            }
             None => self.shell.respond(&mut subject.core, body, out),
         }
     }

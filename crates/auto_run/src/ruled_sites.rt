@@ -1,35 +1,37 @@
 //! A site with rules.
 
 ghost use Rattle.std.specs.Prelude.{◌≡◌};
-ghost use Rattle.session_core.specs.Stands.{StandsForSite};
+ghost use Rattle.auto_run.specs.RuledCores.{StandsForSite};
 
+use any_site::{AnySite, SiteMachine};
 use rule_list::RuleList;
-use session_core::SiteCore;
 use std::marker::Model;
 
 /// A site, and the rules by which its leaves are merged. It is seen as both.
 #[derive(Drop)]
-pub struct RuledSite {
-    pub(crate) core: SiteCore,
+pub struct RuledSite<A: AnySite> {
+    pub(crate) core: SiteMachine<A>,
     pub(crate) rules: RuleList,
 }
 
-impl Model for RuledSite {
-    ghost use Rattle.auto_run.specs.RuledCores.{RuledCore};
-    ghost use Rattle.session_core.specs.Stands.{StandsForSite};
+impl<A: AnySite> Model for RuledSite<A> {
+    ghost use Rattle.auto_run.specs.RuledCores.{RuledCore, StandsForSite};
 
-    ghost Value = { RuledCore };
+    ghost Value = { RuledCore A };
 
     ghost view = { λ r. record { core = r.core; rules = r.rules } };
 
-    ghost invariant = { λ r. StandsForSite r.core };
+    ghost invariant = { λ r. StandsForSite (A.stands r.core) };
 }
 
-impl RuledSite {
-    pub fn new(core: SiteCore, rules: RuleList) -> RuledSite
-        requires { StandsForSite core }
+impl<A: AnySite> RuledSite<A> {
+    pub fn new(core: A, rules: RuleList) -> RuledSite<A>
+        requires { StandsForSite (A.stands core) }
         ensures { result ≡ record { core = core; rules = rules } }
     {
-        RuledSite { core, rules }
+        RuledSite {
+            core: SiteMachine { site: core },
+            rules,
+        }
     }
 }

@@ -26,9 +26,7 @@ use Rattle.plain_site.specs.Site.{Site, Txn}
 use Rattle.plain_site.specs.Sound.{IsSound}
 use Rattle.plain_site.specs.Answers.{refused, given}
 use Rattle.plain_site.specs.Commits.{commit_below}
-use Rattle.session_core.specs.Core.{Core}
-use Rattle.session_core.specs.Joins.{begin_refusal, merge_in_one, MayBeMerged}
-use Rattle.session_core.specs.Machine.{SiteStands}
+use Rattle.any_site.specs.Joins.{begin_refusal, merge_in_one, MayBeMerged}
 use Rattle.rule_list.specs.declared.rules.PrefixRule.{PrefixRule}
 use Rattle.merge_rules.specs.declared.steps.AutoEnd.{AutoEnd}
 use Rattle.merge_rules.specs.declared.steps.AutoEnd.TheVariants.{Single, Refused, Wide, Unmerged}
@@ -164,29 +162,29 @@ module _ (table : Table) (site : Site) (sound : IsSound site) (slots : Slot × S
         settled = none-is_open site.dag xs ws written;
       })
 
--- ===== A site in memory
+-- ===== A site and its store
 
 -- there aren't two
-pub none-at : (core : Core) (site : Site) → SiteStands core site → (table : Table) → table ≡ core.store.table → FirstTwo table None →
+pub none-at : (store : Store) (site : Site) → StoreStands store site.dag site.collected → (table : Table) → table ≡ store.table → FirstTwo table None →
     (n : ℕ) (rules : List PrefixRule) → auto_step site n rules ≡ (site, Single)
-none-at core site stands table same first n rules =
-    no-leaves table site n rules (first site.dag site.collected (subst (λ t. Stands t site.dag site.collected) (sym same) stands.0.store.table))
+none-at store site keeps table same first n rules =
+    no-leaves table site n rules (first site.dag site.collected (subst (λ t. Stands t site.dag site.collected) (sym same) keeps.table))
 
-module _ (core : Core) (site : Site) (stands : SiteStands core site) (slots : Slot × Slot) where
+module _ (store : Store) (site : Site) (sound : IsSound site) (keeps : StoreStands store site.dag site.collected) (slots : Slot × Slot) where
   -- the slots of the first two leaves
-  pub leaves-at : (table : Table) → table ≡ core.store.table → FirstTwo table (Some slots) → AtLeaves core.store.table site slots
+  pub leaves-at : (table : Table) → table ≡ store.table → FirstTwo table (Some slots) → AtLeaves store.table site slots
   leaves-at table same first =
-      at-leaves core.store.table site stands.1 slots
+      at-leaves store.table site sound slots
       (subst (λ t. AreFirst t (leaves site.dag) (Some slots)) same
-      (first site.dag site.collected (subst (λ t. Stands t site.dag site.collected) (sym same) stands.0.store.table)))
+      (first site.dag site.collected (subst (λ t. Stands t site.dag site.collected) (sym same) keeps.table)))
 
   -- their conflict keys are settled
-  pub settled-at : (at : AtLeaves core.store.table site slots) (store : Store) → store ≡ core.store → (rules : List PrefixRule) (settled : Settled) →
-      SettlesAs store rules slots.0 slots.1 (Ok settled) → SettledAs rules site.dag at.x at.y settled
-  settled-at at store same rules settled settles =
-      settles site.dag site.collected (subst (λ s. StoreStands s site.dag site.collected) (sym same) stands.0.store) at.x at.y
+  pub settled-at : (at : AtLeaves store.table site slots) (read : Store) → read ≡ store → (rules : List PrefixRule) (settled : Settled) →
+      SettlesAs read rules slots.0 slots.1 (Ok settled) → SettledAs rules site.dag at.x at.y settled
+  settled-at at read same rules settled settles =
+      settles site.dag site.collected (subst (λ s. StoreStands s site.dag site.collected) (sym same) keeps) at.x at.y
       (subst (λ s. id_at s.table slots.0 ≡ Some at.x) (sym same) at.at_x) (subst (λ s. id_at s.table slots.1 ≡ Some at.y) (sym same) at.at_y)
-      (may-be-settled core.store.table site stands.1 slots at)
+      (may-be-settled store.table site sound slots at)
 
 -- ===== How it ends
 

@@ -13,9 +13,7 @@ use Rattle.plain_dag.specs.Forks.{leaves}
 use Rattle.state_dag.specs.Stands.{Stands}
 use Rattle.state_dag.specs.Table.{Table, id_at}
 use Rattle.plain_site.specs.Site.{Site}
-use Rattle.session_core.specs.Core.{Core}
-use Rattle.session_core.specs.Joins.{MayBeMerged, merge_in_one}
-use Rattle.session_core.specs.Machine.{SiteStands}
+use Rattle.any_site.specs.Joins.{MayBeMerged, merge_in_one}
 use Rattle.merge_rules.specs.declared.steps.AutoEnd.{AutoEnd}
 use Rattle.merge_rules.specs.Auto.{AutoAnswer, ended_as}
 
@@ -35,13 +33,13 @@ abbrev pub FirstTwo : Table → Option (Slot × Slot) → Type 0
 FirstTwo table two = (rs : List Record) (ks : List StateId) → Stands table rs ks → AreFirst table (leaves rs) two
 
 -- a merge of the states of these slots may commit with these writes, which are those of keys
-abbrev pub MayJoin : Core → Slot → Slot → List KeyWrite → Type 0
-MayJoin core a b ws =
-    (site : Site) → SiteStands core site → (x y : StateId) → id_at core.store.table a ≡ Some x → id_at core.store.table b ≡ Some y →
+abbrev pub MayJoin : (Site → Type 0) → Table → Slot → Slot → List KeyWrite → Type 0
+MayJoin stands table a b ws =
+    (site : Site) → stands site → (x y : StateId) → id_at table a ≡ Some x → id_at table b ≡ Some y →
     IsTrue (list_all (λ w. is_key w.0 && is_write w.1) ws) → MayBeMerged site (x ∷ y ∷ []) ws
 
 -- the session commits a merge of the states of these slots
-abbrev pub JoinsAs : Core → Core → ℕ → Slot → Slot → List KeyWrite → Result AutoEnd OutOfMemory → Type 0
-JoinsAs old new n a b ws result =
-    (site : Site) → SiteStands old site → (x y : StateId) → id_at old.store.table a ≡ Some x → id_at old.store.table b ≡ Some y →
-    Ends (SiteStands new) (ended_as (merge_in_one site n (x ∷ y ∷ []) ws)) site result
+abbrev pub JoinsAs : (Site → Type 0) → (Site → Type 0) → Table → ℕ → Slot → Slot → List KeyWrite → Result AutoEnd OutOfMemory → Type 0
+JoinsAs old new table n a b ws result =
+    (site : Site) → old site → (x y : StateId) → id_at table a ≡ Some x → id_at table b ≡ Some y →
+    Ends new (ended_as (merge_in_one site n (x ∷ y ∷ []) ws)) site result

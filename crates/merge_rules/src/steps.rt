@@ -5,14 +5,13 @@
 ghost use Rattle.std.specs.Prelude.{◌≡◌, IsTrue, IfSome};
 ghost use Rattle.state_dag.specs.Table.{is_slot};
 ghost use Rattle.plain_site.specs.Site.{Site};
-ghost use Rattle.session_core.specs.Joins.{IsMergeEnd};
-ghost use Rattle.session_core.specs.Machine.{SiteStands, opened_with};
+ghost use Rattle.any_site.specs.Joins.{IsMergeEnd};
 ghost use Rattle.merge_rules.specs.Auto.{auto_step, end_of};
 ghost use Rattle.merge_rules.specs.Steps.{Ends, FirstTwo, MayJoin, JoinsAs};
 
+use any_site::AnySite;
 use join_rules::{Settled, settle};
 use rule_list::RuleList;
-use session_core::SiteCore;
 use state_dag::StateDag;
 use std::alloc::Global;
 use tardis_base::{Key, NoMemory, Refusal, Reply, Slot, StateId, WriteSet};
@@ -35,15 +34,15 @@ pub enum AutoEnd {
 /// Merges the two leaves that arrived first, as the actor's session: each of their conflict keys gets the value that its
 /// rule gives, and no other key is written. Unless that ends as `Merged`, and with no memory, the site is as before.
 ///
-/// The cost is that of `settle`, and then that of `SiteCore::commit_merge`; it doesn't grow with the number of leaves.
-pub fn auto_step(
+/// The cost is that of `settle`, and then that of `AnySite::commit_merge`; it doesn't grow with the number of leaves.
+pub fn auto_step<A: AnySite>(
     alloc: Global,
-    core: &mut SiteCore,
+    core: &mut A,
     actor: u16,
     rules: &RuleList,
 ) -> Result<AutoEnd, NoMemory>
-    ensures plain { (site : Site) → SiteStands core.old site → Ends (SiteStands core.new) (auto_step site actor rules.now) site result }
-    ensures opening { opened_with core.new ≡ opened_with core.old }
+    ensures plain { (site : Site) → A.stands core.old site → Ends (A.stands core.new) (auto_step site actor rules.now) site result }
+    ensures opening { A.opened core.new ≡ A.opened core.old }
 {
     let Some((a, b)) = first_two(core.store().dag()) else {
         return Ok(AutoEnd::Single);
@@ -78,18 +77,18 @@ fn first_two(dag: &StateDag) -> Option<(Slot, Slot)>
 }
 
 /// Commits a merge of the states of these two slots with these writes, in one step.
-fn join(
-    core: &mut SiteCore,
+fn join<A: AnySite>(
+    core: &mut A,
     actor: u16,
     a: Slot,
     b: Slot,
     writes: WriteSet,
 ) -> Result<AutoEnd, NoMemory>
-    requires a { IsTrue (is_slot core.old.store.table a) }
-    requires b { IsTrue (is_slot core.old.store.table b) }
-    requires merges { MayJoin core.old a b writes }
-    ensures joined { JoinsAs core.old core.new actor a b writes result }
-    ensures opening { opened_with core.new ≡ opened_with core.old }
+    requires a { IsTrue (is_slot (A.kept core.old).table a) }
+    requires b { IsTrue (is_slot (A.kept core.old).table b) }
+    requires merges { MayJoin (A.stands core.old) (A.kept core.old).table a b writes }
+    ensures joined { JoinsAs (A.stands core.old) (A.stands core.new) (A.kept core.old).table actor a b writes result }
+    ensures opening { A.opened core.new ≡ A.opened core.old }
 {
     let _ = writes.as_slice(); // for the proof alone
     let reply = core.commit_merge(actor, &[a, b], writes)?;

@@ -1,36 +1,24 @@
-use Rattle.std.proofs.Common.{subst}
-use Rattle.tardis_io.specs.Told.{WhileTold}
-use Rattle.tardis_io.proofs.Told.{weaker}
 use Rattle.tardis_io.specs.declared.statuses.Status.TheVariants.{NoMemory}
 use Rattle.plain_site.specs.Site.{opening}
-use Rattle.plain_site.specs.Step.{site_machine}
-use Rattle.session_core.specs.Machine.{SiteStands}
-use Rattle.shell_run.specs.Answers.{over_lines}
 use Rattle.site_commands.proofs.NoMemory.{no_lines}
 use Rattle.site_commands.proofs.FrameRuns.{opens}
-use Rattle.auto_run.specs.RuledCores.{RuledCore}
-use Rattle.auto_run.specs.Outcomes.{AutoOutcome, AutoFrom}
-use Rattle.auto_run.proofs.AutoRuns.{auto_from, no_auto}
+use Rattle.auto_run.specs.Outcomes.{AutoFrom}
+use Rattle.auto_run.proofs.AutoRuns.{opened_from, no_auto}
 use Rattle.auto_run.proofs.commands.auto.Goals as goal
+
+pub new-site-requires : goal.new-site-requires
+new-site-requires g c = record { site = opening c.args.limits c.args.own; there = c.in-Ok.ensures.stands }
 
 pub returns-in-Ok-clause-ends : goal.returns-in-Ok-clause-ends
 returns-in-Ok-clause-ends g c =
-    let site = opening c.args.limits c.args.own in
-    let status = c.run_auto-status.result in
-    let old = g.O.Sink.given c.args.output.now in
-    let new = g.O.Sink.given c.run_auto-status.new.output in
-    let before = SiteStands c.in-Ok.core in
-    let after = SiteStands c.run_auto-status.new.site.core in
+    let after = c.run_auto.new.site.core in
     record {
-      outcome = weaker (g.I.Source.left c.args.input.now) (g.I.Source.left c.run_auto-status.new.input)
-          (AutoOutcome (over_lines site_machine) c.args.rules status before after old new) (AutoFrom site c.args.rules status old new)
-          (subst (λ (r : RuledCore). WhileTold (g.I.Source.left c.args.input.now) (g.I.Source.left c.run_auto-status.new.input)
-          (AutoOutcome (over_lines site_machine) r.rules status (SiteStands r.core) after old new)) c.new-site.ensures c.run_auto-status.ensures.outcome)
-          (λ x y o. auto_from site c.args.rules before after status old new x y
-          (c.in-Ok.ensures.stands, opens c.args.limits c.args.own c.requires.limits c.requires.first c.requires.last) (λ t both. both.1) o);
-      exact = c.run_auto-status.ensures.exact;
-      end = c.run_auto-status.ensures.status;
-      nothing = λ none. let all = c.run_auto-status.ensures.nothing none in (all.0, all.1);
+      outcome = opened_from g.A.AnySite.stands c.in-Ok.core (opening c.args.limits c.args.own) c.args.rules c.new-site.result c.new-site.ensures
+          c.in-Ok.ensures.stands (g.A.AnySite.stands after) (g.met.A.AnySite.sound after) c.run_auto.result (g.O.Sink.given c.args.output.now)
+          (g.O.Sink.given c.run_auto.new.output) (g.I.Source.left c.args.input.now) (g.I.Source.left c.run_auto.new.input) c.run_auto.ensures.outcome;
+      exact = c.run_auto.ensures.exact;
+      end = c.run_auto.ensures.status;
+      nothing = λ none. let all = c.run_auto.ensures.nothing none in (all.0, all.1);
     }
 
 pub returns-in-Err-clause-ends : goal.returns-in-Err-clause-ends
