@@ -53,26 +53,33 @@ module _ {S : Type 0} (stands : S → Site → Type 0) where
   pub then_drawn : {A E : Type 0} (old mid new : Held S) (r : Result A E) (w : ℕ) (next : ℕ → Act) → Drew stands old mid w → Does stands mid new r (next w) →
       Does stands old new r (draws next)
   then_drawn old mid new r w next p d =
-      IfOk-weaker r (λ x. (play : Play) → Plays stands mid play → Plays stands new (next w play)) (λ x. (play : Play) → Plays stands old play → Plays stands new (draws next play))
+      IfOk-weaker r (λ x. (play : Play) → Plays stands mid play → Plays stands new (next w play))
+      (λ x. (play : Play) → Plays stands old play → Plays stands new (draws next play))
       (λ x f play h. subst (λ s. Plays stands new (next s (drawn play))) (p play h).1 (f (drawn play) (p play h).0)) d
 
   -- a session that has a transaction commits it
-  pub turn_commits : {A E : Type 0} (old new : Held S) (r : Result A E) (i s : ℕ) → ((play : Play) → Plays stands old play → true ≡ is_some (entry_of s play.site.txns)) →
+  pub turn_commits : {A E : Type 0} (old new : Held S) (r : Result A E) (i s : ℕ) →
+      ((play : Play) → Plays stands old play → true ≡ is_some (entry_of s play.site.txns)) →
       Does stands old new r (commits_ser s) → Does stands old new r (turn_of i s)
   turn_commits old new r i s has d =
-      IfOk-weaker r (λ x. (play : Play) → Plays stands old play → Plays stands new (commits_ser s play)) (λ x. (play : Play) → Plays stands old play → Plays stands new (turn_of i s play))
+      IfOk-weaker r (λ x. (play : Play) → Plays stands old play → Plays stands new (commits_ser s play))
+      (λ x. (play : Play) → Plays stands old play → Plays stands new (turn_of i s play))
       (λ x f play h. subst (λ b. Plays stands new (if b then commits_ser s play else begins i s play)) (has play h) (f play h)) d
 
   -- one that has none begins
-  pub turn_begins : {A E : Type 0} (old new : Held S) (r : Result A E) (i s : ℕ) → ((play : Play) → Plays stands old play → false ≡ is_some (entry_of s play.site.txns)) →
+  pub turn_begins : {A E : Type 0} (old new : Held S) (r : Result A E) (i s : ℕ) →
+      ((play : Play) → Plays stands old play → false ≡ is_some (entry_of s play.site.txns)) →
       Does stands old new r (begins i s) → Does stands old new r (turn_of i s)
   turn_begins old new r i s has d =
-      IfOk-weaker r (λ x. (play : Play) → Plays stands old play → Plays stands new (begins i s play)) (λ x. (play : Play) → Plays stands old play → Plays stands new (turn_of i s play))
+      IfOk-weaker r (λ x. (play : Play) → Plays stands old play → Plays stands new (begins i s play))
+      (λ x. (play : Play) → Plays stands old play → Plays stands new (turn_of i s play))
       (λ x f play h. subst (λ b. Plays stands new (if b then commits_ser s play else begins i s play)) (has play h) (f play h)) d
 
   -- one act, and then another
-  pub then_does : {A E : Type 0} (old mid new : Held S) (r : Result A E) (first next : Act) → ((play : Play) → Plays stands old play → Plays stands mid (first play)) →
+  pub then_does : {A E : Type 0} (old mid new : Held S) (r : Result A E) (first next : Act) →
+      ((play : Play) → Plays stands old play → Plays stands mid (first play)) →
       Does stands mid new r next → Does stands old new r (λ play. next (first play))
   then_does old mid new r first next p d =
-      IfOk-weaker r (λ x. (play : Play) → Plays stands mid play → Plays stands new (next play)) (λ x. (play : Play) → Plays stands old play → Plays stands new (next (first play)))
+      IfOk-weaker r (λ x. (play : Play) → Plays stands mid play → Plays stands new (next play))
+      (λ x. (play : Play) → Plays stands old play → Plays stands new (next (first play)))
       (λ x f play h. f (first play) (p play h)) d
