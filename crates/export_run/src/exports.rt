@@ -8,15 +8,14 @@ ghost use Rattle.frame_cut.specs.Frames.{IsCut};
 ghost use Rattle.site_run.specs.Endings.{most_taken};
 ghost use Rattle.plain_site.specs.Site.{Site, opening};
 ghost use Rattle.plain_site.specs.Sound.{IsSound};
-ghost use Rattle.session_core.specs.Machine.{SiteStands};
 ghost use Rattle.branch_export.specs.Exported.{Exported};
 ghost use Rattle.branch_export.specs.Imported.{has_given};
 ghost use Rattle.branch_export.specs.declared.faults.ExportFault.{ExportFault};
 ghost use Rattle.export_run.specs.Exporting.{ExportOutcome, ExportEndsAs, IsExportEnd};
 
 use crate::silence::ask_silently;
+use any_site::{AnySite, SiteMachine};
 use branch_export::{ExportFault, export_store};
-use session_core::SiteCore;
 use std::alloc::Global;
 use std::hash::RandomState;
 use std::mem;
@@ -27,13 +26,13 @@ use tardis_io::{Sink, Source, Status};
 ///
 /// All memory comes before the first byte. The cost grows with the number of all keys of the site, and with the bytes that are
 /// written.
-pub fn export_at<O: Sink>(
+pub fn export_at<A: AnySite, O: Sink>(
     alloc: Global,
-    core: &SiteCore,
+    core: &A,
     state: StateId,
     output: &mut O,
 ) -> Result<(), ExportFault>
-    ensures exported { (site : Site) → SiteStands core.now site → Exported site.dag site.collected state (O.given output.old) (O.given output.new) result }
+    ensures exported { (site : Site) → A.stands core.now site → Exported site.dag site.collected state (O.given output.old) (O.given output.new) result }
     ensures nothing { (result ≡ Err ExportFault.NoState) ⊎ (result ≡ Err ExportFault.NoMemory) → output.new ≡ output.old }
     ensures later { O.faults output.old ≤ O.faults output.new }
     ensures cause { result ≡ Err ExportFault.WriteFault → Rose (O.faults output.old) (O.faults output.new) }
@@ -45,15 +44,15 @@ pub fn export_at<O: Sink>(
 ///
 /// Nothing is written unless the input ended behind a whole frame, no frame found memory wanting, and the state is known and
 /// not collected by then. Where a frame found memory wanting, no more is read, and the steps made before stand.
-pub fn run_export<I: Source, O: Sink>(
+pub fn run_export<A: AnySite, I: Source, O: Sink>(
     alloc: Global,
-    core: &mut SiteCore,
+    core: &mut SiteMachine<A>,
     state: StateId,
     input: &mut I,
     output: &mut O,
 ) -> Status
     ensures outcome { WhileTold (I.left input.old) (I.left input.new)
-        (ExportOutcome result state (SiteStands core.old) (SiteStands core.new) (O.given output.old) (O.given output.new)) }
+        (ExportOutcome result state (A.stands core.old) (A.stands core.new) (O.given output.old) (O.given output.new)) }
     ensures exact { WhileTold (I.left input.old) (I.left input.new) (λ first left. (all : List (List ℕ)) (rest : List ℕ)
         → IsCut first all rest → length first < most_taken
         → (Rose (I.faults input.old) (I.faults input.new) → ⊥) → (Rose (O.faults output.old) (O.faults output.new) → ⊥)
@@ -66,7 +65,7 @@ pub fn run_export<I: Source, O: Sink>(
     ensures nothing { has_given result ≡ false → output.new ≡ output.old }
 {
     match ask_silently(alloc, core, input) {
-        Status::Ok => match export_at(alloc, core, state, output) {
+        Status::Ok => match export_at(alloc, site_of(core), state, output) {
             Ok(()) => Status::Ok,
             Err(ExportFault::NoState) => Status::NoState { state },
             Err(ExportFault::WriteFault) => Status::WriteFault,
@@ -80,7 +79,7 @@ pub fn run_export<I: Source, O: Sink>(
 /// The same of the site of this number, with these limits, which opens.
 ///
 /// Keys are found by hashing with this seed.
-pub fn export<I: Source, O: Sink>(
+pub fn export<A: AnySite, I: Source, O: Sink>(
     alloc: Global,
     keys: RandomState,
     limits: Limits,
@@ -105,7 +104,7 @@ pub fn export<I: Source, O: Sink>(
     ensures write { result ≡ Status.WriteFault → Rose (O.faults output.old) (O.faults output.new) }
     ensures nothing { has_given result ≡ false → output.new ≡ output.old }
 {
-    match SiteCore::new(alloc, keys, limits, own) {
+    match SiteMachine::<A>::open(alloc, keys, limits, own) {
         Ok(mut site) => {
             let status = run_export(alloc, &mut site, state, input, output);
             mem::forget(site); // the program ends, and gives all memory back at once
@@ -113,4 +112,11 @@ pub fn export<I: Source, O: Sink>(
         }
         Err(NoMemory) => Status::NoMemory,
     }
+}
+
+/// The site that is the machine.
+fn site_of<A: AnySite>(machine: &SiteMachine<A>) -> &A
+    ensures { result.now ≡ machine.now }
+{
+    &machine.site
 }

@@ -7,9 +7,7 @@ use Rattle.tardis_base.specs.declared.replies.Reply.{Reply}
 use Rattle.tardis_base.specs.declared.faults.NoMemory.{NoMemory as OutOfMemory}
 use Rattle.plain_site.specs.Site.{Site}
 use Rattle.plain_site.specs.Step.{step}
-use Rattle.session_core.specs.Core.{Core}
-use Rattle.session_core.specs.Gives.{Gives}
-use Rattle.session_core.specs.Machine.{SiteStands}
+use Rattle.any_site.specs.Gives.{Gives}
 use Rattle.load_run.specs.declared.counts.Counts.{Counts}
 use Rattle.load_run.specs.Plays.{Play, Act, counted, asks, asks_then, reply_to, stepped, draws, drawn, each_to, each_of}
 use Rattle.plain_dag.specs.Entries.{entry_of}
@@ -33,47 +31,55 @@ one_further xs k x act play lt is = subst (λ m. each_of (take m xs) act play �
 pub counted_as : (r s : Reply) (a b : Counts) → r ≡ s → a ≡ b → counted r a ≡ counted s b
 counted_as r s a b e f = ap (λ x. counted x a) e ∙ ap (counted s) f
 
--- what the site replied
-pub site_replied : (old : Held) (core : Core) (n : ℕ) (q : Request) (r : Result Reply OutOfMemory) →
-    ((site : Site) → SiteStands old.core site → Gives (SiteStands core) (step site n q) site r) → Replied old (record old { core = core }) n q r
-unfolding stepped reply_to
-site_replied old core n q (Ok reply) gives = λ play here.
-    let given = gives play.site here.site in (record { site = given.0; words = here.words; counts = here.counts }, given.1)
-site_replied old core n q (Err fault) gives = tt
+module _ {S : Type 0} (stands : S → Site → Type 0) where
+  -- what the site replied
+  pub site_replied : (old : Held S) (site : S) (n : ℕ) (q : Request) (r : Result Reply OutOfMemory) →
+      ((s : Site) → stands old.site s → Gives (stands site) (step s n q) s r) → Replied stands old (record old { site = site }) n q r
+  unfolding stepped reply_to
+  site_replied old site n q (Ok reply) gives = λ play here.
+      let given = gives play.site here.site in (record { site = given.0; words = here.words; counts = here.counts }, given.1)
+  site_replied old site n q (Err fault) gives = tt
 
--- a question, and what its reply tells
-pub then_told : {A E : Type 0} (old mid new : Held) (r : Result A E) (n : ℕ) (q : Request) (reply : Reply) (next : Reply → Act) →
-    ((play : Play) → Plays old play → Plays mid (asks n q play) × (reply ≡ reply_to n q play)) → Does mid new r (next reply) →
-    Does old new r (asks_then n q next)
-then_told old mid new r n q reply next p d =
-    IfOk-weaker r (λ x. (play : Play) → Plays mid play → Plays new (next reply play))
-    (λ x. (play : Play) → Plays old play → Plays new (asks_then n q next play))
-    (λ x f play h. subst (λ s. Plays new (next s (asks n q play))) (p play h).1 (f (asks n q play) (p play h).0)) d
+  -- a question, and what its reply tells
+  pub then_told : {A E : Type 0} (old mid new : Held S) (r : Result A E) (n : ℕ) (q : Request) (reply : Reply) (next : Reply → Act) →
+      ((play : Play) → Plays stands old play → Plays stands mid (asks n q play) × (reply ≡ reply_to n q play)) → Does stands mid new r (next reply) →
+      Does stands old new r (asks_then n q next)
+  then_told old mid new r n q reply next p d =
+      IfOk-weaker r (λ x. (play : Play) → Plays stands mid play → Plays stands new (next reply play))
+      (λ x. (play : Play) → Plays stands old play → Plays stands new (asks_then n q next play))
+      (λ x f play h. subst (λ s. Plays stands new (next s (asks n q play))) (p play h).1 (f (asks n q play) (p play h).0)) d
 
--- a word, and what it tells
-pub then_drawn : {A E : Type 0} (old mid new : Held) (r : Result A E) (w : ℕ) (next : ℕ → Act) → Drew old mid w → Does mid new r (next w) →
-    Does old new r (draws next)
-then_drawn old mid new r w next p d =
-    IfOk-weaker r (λ x. (play : Play) → Plays mid play → Plays new (next w play)) (λ x. (play : Play) → Plays old play → Plays new (draws next play))
-    (λ x f play h. subst (λ s. Plays new (next s (drawn play))) (p play h).1 (f (drawn play) (p play h).0)) d
+  -- a word, and what it tells
+  pub then_drawn : {A E : Type 0} (old mid new : Held S) (r : Result A E) (w : ℕ) (next : ℕ → Act) → Drew stands old mid w → Does stands mid new r (next w) →
+      Does stands old new r (draws next)
+  then_drawn old mid new r w next p d =
+      IfOk-weaker r (λ x. (play : Play) → Plays stands mid play → Plays stands new (next w play))
+      (λ x. (play : Play) → Plays stands old play → Plays stands new (draws next play))
+      (λ x f play h. subst (λ s. Plays stands new (next s (drawn play))) (p play h).1 (f (drawn play) (p play h).0)) d
 
--- a session that has a transaction commits it
-pub turn_commits : {A E : Type 0} (old new : Held) (r : Result A E) (i s : ℕ) → ((play : Play) → Plays old play → true ≡ is_some (entry_of s play.site.txns)) →
-    Does old new r (commits_ser s) → Does old new r (turn_of i s)
-turn_commits old new r i s has d =
-    IfOk-weaker r (λ x. (play : Play) → Plays old play → Plays new (commits_ser s play)) (λ x. (play : Play) → Plays old play → Plays new (turn_of i s play))
-    (λ x f play h. subst (λ b. Plays new (if b then commits_ser s play else begins i s play)) (has play h) (f play h)) d
+  -- a session that has a transaction commits it
+  pub turn_commits : {A E : Type 0} (old new : Held S) (r : Result A E) (i s : ℕ) →
+      ((play : Play) → Plays stands old play → true ≡ is_some (entry_of s play.site.txns)) →
+      Does stands old new r (commits_ser s) → Does stands old new r (turn_of i s)
+  turn_commits old new r i s has d =
+      IfOk-weaker r (λ x. (play : Play) → Plays stands old play → Plays stands new (commits_ser s play))
+      (λ x. (play : Play) → Plays stands old play → Plays stands new (turn_of i s play))
+      (λ x f play h. subst (λ b. Plays stands new (if b then commits_ser s play else begins i s play)) (has play h) (f play h)) d
 
--- one that has none begins
-pub turn_begins : {A E : Type 0} (old new : Held) (r : Result A E) (i s : ℕ) → ((play : Play) → Plays old play → false ≡ is_some (entry_of s play.site.txns)) →
-    Does old new r (begins i s) → Does old new r (turn_of i s)
-turn_begins old new r i s has d =
-    IfOk-weaker r (λ x. (play : Play) → Plays old play → Plays new (begins i s play)) (λ x. (play : Play) → Plays old play → Plays new (turn_of i s play))
-    (λ x f play h. subst (λ b. Plays new (if b then commits_ser s play else begins i s play)) (has play h) (f play h)) d
+  -- one that has none begins
+  pub turn_begins : {A E : Type 0} (old new : Held S) (r : Result A E) (i s : ℕ) →
+      ((play : Play) → Plays stands old play → false ≡ is_some (entry_of s play.site.txns)) →
+      Does stands old new r (begins i s) → Does stands old new r (turn_of i s)
+  turn_begins old new r i s has d =
+      IfOk-weaker r (λ x. (play : Play) → Plays stands old play → Plays stands new (begins i s play))
+      (λ x. (play : Play) → Plays stands old play → Plays stands new (turn_of i s play))
+      (λ x f play h. subst (λ b. Plays stands new (if b then commits_ser s play else begins i s play)) (has play h) (f play h)) d
 
--- one act, and then another
-pub then_does : {A E : Type 0} (old mid new : Held) (r : Result A E) (first next : Act) → ((play : Play) → Plays old play → Plays mid (first play)) →
-    Does mid new r next → Does old new r (λ play. next (first play))
-then_does old mid new r first next p d =
-    IfOk-weaker r (λ x. (play : Play) → Plays mid play → Plays new (next play)) (λ x. (play : Play) → Plays old play → Plays new (next (first play)))
-    (λ x f play h. f (first play) (p play h)) d
+  -- one act, and then another
+  pub then_does : {A E : Type 0} (old mid new : Held S) (r : Result A E) (first next : Act) →
+      ((play : Play) → Plays stands old play → Plays stands mid (first play)) →
+      Does stands mid new r next → Does stands old new r (λ play. next (first play))
+  then_does old mid new r first next p d =
+      IfOk-weaker r (λ x. (play : Play) → Plays stands mid play → Plays stands new (next play))
+      (λ x. (play : Play) → Plays stands old play → Plays stands new (next (first play)))
+      (λ x f play h. f (first play) (p play h)) d

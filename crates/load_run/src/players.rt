@@ -4,17 +4,17 @@ ghost use Rattle.std.specs.Prelude.{◌≡◌, ◌+◌, ◌≤◌, is_some, IsTr
 ghost use Rattle.tardis_base.specs.declared.requests.Request.{Request};
 ghost use Rattle.wire_talk.specs.Valid.{is_request};
 ghost use Rattle.plain_dag.specs.Entries.{entry_of};
-ghost use Rattle.session_core.specs.Machine.{IsTold};
+ghost use Rattle.any_site.specs.Gives.{IsTold};
 ghost use Rattle.load_run.specs.Plays.{Play, asks};
 ghost use Rattle.load_run.specs.Scripts.{opening_play};
 ghost use Rattle.load_run.specs.Lines.{known, kept};
 ghost use Rattle.load_run.specs.Held.{Plays, Asked, Does, Drew, Replied};
 
 use crate::counts::Counts;
+use any_site::AnySite;
 use command_words::Place;
 use rand_core::utils::NextWord;
 use rand_pcg::Lcg64Xsh32;
-use session_core::SiteCore;
 use std::alloc::Global;
 use std::hash::RandomState;
 use std::marker::Model;
@@ -25,31 +25,31 @@ const ALONE: Place = Place { sites: 1, site: 1 };
 
 /// A site, the words to come, and what was counted.
 #[derive(Drop)]
-pub(crate) struct Player {
+pub(crate) struct Player<A: AnySite> {
     alloc: Global,
-    site: SiteCore,
+    site: A,
     words: Lcg64Xsh32,
     counts: Counts,
 }
 
-impl Model for Player {
+impl<A: AnySite> Model for Player<A> {
     ghost use Rattle.std.specs.Prelude.{◌≤◌};
     ghost use Rattle.load_run.specs.Held.{Held};
 
-    ghost Value = { Held };
+    ghost Value = { Held A };
 
-    ghost view = { λ p. record { core = p.site; words = p.words; counts = p.counts } };
+    ghost view = { λ p. record { site = p.site; words = p.words; counts = p.counts } };
 
     ghost invariant = { λ p. (p.counts.committed ≤ p.counts.events) × (p.counts.refused ≤ p.counts.events) };
 }
 
-impl Player {
+impl<A: AnySite> Player<A> {
     /// A site that opens, the words of this start, and nothing counted.
-    pub(crate) fn new(alloc: Global, keys: RandomState, start: u32) -> Result<Player, NoMemory>
-        ensures stands { IfOk result (λ held. Plays held (opening_play start)) }
+    pub(crate) fn new(alloc: Global, keys: RandomState, start: u32) -> Result<Player<A>, NoMemory>
+        ensures stands { IfOk result (λ held. Plays A.stands held (opening_play start)) }
         ensures none { IfOk result (λ held. held.counts.events ≡ 0) }
     {
-        let site = SiteCore::new(alloc, keys, ALONE.limits(), 1)?;
+        let site = A::open(alloc, keys, ALONE.limits(), 1)?;
         let words = Lcg64Xsh32::new(u64::from(start), 1);
         Ok(Player {
             alloc,
@@ -73,7 +73,7 @@ impl Player {
 
     /// Draws the next word.
     pub(crate) fn word(&mut self) -> u32
-        ensures drew { Drew self.old self.new result }
+        ensures drew { Drew A.stands self.old self.new result }
         ensures counts { self.new.counts ≡ self.old.counts }
     {
         self.words.next_word()
@@ -81,7 +81,7 @@ impl Player {
 
     /// Whether the session has an open transaction.
     pub(crate) fn has_txn(&self, session: u16) -> bool
-        ensures { (play : Play) → Plays self.now play → result ≡ is_some (entry_of session play.site.txns) }
+        ensures { (play : Play) → Plays A.stands self.now play → result ≡ is_some (entry_of session play.site.txns) }
     {
         self.site.has_txn(session)
     }
@@ -89,7 +89,7 @@ impl Player {
     /// What the site replies to the actor. It isn't counted.
     fn reply_to(&mut self, actor: u16, request: Request) -> Result<Reply, NoMemory>
         requires { IsTrue (is_request request) }
-        ensures replied { Replied self.old self.new actor request result }
+        ensures replied { Replied A.stands self.old self.new actor request result }
         ensures told { IfOk result (λ reply. IsTold reply) }
         ensures counts { self.new.counts ≡ self.old.counts }
     {
@@ -100,7 +100,7 @@ impl Player {
     pub(crate) fn ask(&mut self, actor: u16, request: Request) -> Result<Reply, NoMemory>
         requires request { IsTrue (is_request request) }
         requires room { self.old.counts.events + 1 ≤ 18446744073709551615 }
-        ensures asked { Asked self.old self.new actor request result }
+        ensures asked { Asked A.stands self.old self.new actor request result }
         ensures told { IfOk result (λ reply. IsTold reply) }
         ensures room { self.new.counts.events ≤ self.old.counts.events + 1 }
     {
@@ -113,7 +113,7 @@ impl Player {
     pub(crate) fn tell(&mut self, actor: u16, request: Request) -> Result<(), NoMemory>
         requires request { IsTrue (is_request request) }
         requires room { self.old.counts.events + 1 ≤ 18446744073709551615 }
-        ensures does { Does self.old self.new result (asks actor request) }
+        ensures does { Does A.stands self.old self.new result (asks actor request) }
         ensures room { self.new.counts.events ≤ self.old.counts.events + 1 }
     {
         let reply = self.ask(actor, request)?;
@@ -123,8 +123,8 @@ impl Player {
 
     /// How many states the site knows, and how many of them it keeps.
     pub(crate) fn states(&self) -> (u64, u32)
-        ensures known { (play : Play) → Plays self.now play → result.0 ≡ known play.site }
-        ensures kept { (play : Play) → Plays self.now play → result.1 ≡ kept play.site }
+        ensures known { (play : Play) → Plays A.stands self.now play → result.0 ≡ known play.site }
+        ensures kept { (play : Play) → Plays A.stands self.now play → result.1 ≡ kept play.site }
     {
         let dag = self.site.store().dag();
         (dag.known(), dag.kept())

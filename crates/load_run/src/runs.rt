@@ -10,6 +10,7 @@ ghost use Rattle.load_run.specs.Ends.{WritesLine, IsLoadEnd};
 
 use crate::lines::line_of;
 use crate::players::Player;
+use any_site::AnySite;
 use std::alloc::Global;
 use std::hash::RandomState;
 use tardis_base::NoMemory;
@@ -20,7 +21,7 @@ use tardis_io::{Sink, Status, WriteFault, write_all};
 ///
 /// The script is stated in `docs/COMMANDS.md`, 'A load'. The cost grows with the number of steps and with the states that the
 /// site keeps.
-pub fn run_load<O: Sink>(
+pub fn run_load<A: AnySite, O: Sink>(
     alloc: Global,
     keys: RandomState,
     start: u32,
@@ -33,7 +34,7 @@ pub fn run_load<O: Sink>(
     ensures write { result ≡ Status.WriteFault → Rose (O.faults output.old) (O.faults output.new) }
     ensures nothing { result ≡ Status.NoMemory → output.new ≡ output.old }
 {
-    match load(alloc, keys, start, steps) {
+    match load::<A>(alloc, keys, start, steps) {
         Ok(line) => match write_all(output, line.as_slice()) {
             Ok(()) => Status::Ok,
             Err(WriteFault) => Status::WriteFault,
@@ -43,23 +44,26 @@ pub fn run_load<O: Sink>(
 }
 
 /// The line of the script's play.
-fn load(alloc: Global, keys: RandomState, start: u32, steps: u32) -> Result<Vec<u8>, NoMemory>
-    ensures { IfOk result (λ line. line.items ≡ load_line start steps) }
-{
-    let mut player = Player::new(alloc, keys, start)?;
-    let line = played_line(alloc, &mut player, start, steps);
-    drop(player); // for the proof alone
-    line
-}
-
-/// Plays so many steps of the script from its start, and tells the line of it.
-fn played_line(
+fn load<A: AnySite>(
     alloc: Global,
-    player: &mut Player,
+    keys: RandomState,
     start: u32,
     steps: u32,
 ) -> Result<Vec<u8>, NoMemory>
-    requires opens { Plays player.old (opening_play start) }
+    ensures { IfOk result (λ line. line.items ≡ load_line start steps) }
+{
+    let mut player = Player::<A>::new(alloc, keys, start)?;
+    played_line(alloc, &mut player, start, steps)
+}
+
+/// Plays so many steps of the script from its start, and tells the line of it.
+fn played_line<A: AnySite>(
+    alloc: Global,
+    player: &mut Player<A>,
+    start: u32,
+    steps: u32,
+) -> Result<Vec<u8>, NoMemory>
+    requires opens { Plays A.stands player.old (opening_play start) }
     requires none { player.old.counts.events ≡ 0 }
     ensures { IfOk result (λ line. line.items ≡ load_line start steps) }
 {

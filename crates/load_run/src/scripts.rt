@@ -4,12 +4,13 @@ ghost use Rattle.std.specs.Prelude.{◌≡◌, ◌+◌, ◌%◌, ◌≤◌, ◌<
 ghost use Rattle.tardis_base.specs.Valid.{is_key, is_value};
 ghost use Rattle.tardis_base.specs.declared.requests.Request.{Request};
 ghost use Rattle.tardis_base.specs.declared.requests.MergeOf.{MergeOf};
-ghost use Rattle.session_core.specs.Machine.{IsTold};
+ghost use Rattle.any_site.specs.Gives.{IsTold};
 ghost use Rattle.load_run.specs.Plays.{asks, asks_then, draws, each_to, each_of};
 ghost use Rattle.load_run.specs.Scripts.{key, opens, commits_ser, begins, turn, aborts, settles, merges, upkeep, one_step, script};
 ghost use Rattle.load_run.specs.Held.{Does};
 
 use crate::players::Player;
+use any_site::AnySite;
 use itoa::Buffer;
 use std::alloc::Global;
 use tardis_base::{Begin, ByteList, EndFlags, Key, MergeOf, NoMemory, Reply, Request, Value};
@@ -54,11 +55,11 @@ fn copy_of(alloc: Global, key: &Key) -> Result<Key, NoMemory>
     }
 }
 
-impl Player {
+impl<A: AnySite> Player<A> {
     /// The session opens, and follows its commits.
     fn open(&mut self, session: u16) -> Result<(), NoMemory>
         requires { self.old.counts.events + 1 ≤ 18446744073709551615 }
-        ensures does { Does self.old self.new result (opens session) }
+        ensures does { Does A.stands self.old self.new result (opens session) }
         ensures room { self.new.counts.events ≤ self.old.counts.events + 1 }
     {
         self.tell(session, Request::Open { follow: true })
@@ -68,7 +69,7 @@ impl Player {
     fn put(&mut self, session: u16, key: Key, number: u32) -> Result<(), NoMemory>
         requires key { IsTrue (is_key key) }
         requires room { self.old.counts.events + 1 ≤ 18446744073709551615 }
-        ensures does { Does self.old self.new result (asks session (Request.Put key (decimal number))) }
+        ensures does { Does A.stands self.old self.new result (asks session (Request.Put key (decimal number))) }
         ensures room { self.new.counts.events ≤ self.old.counts.events + 1 }
     {
         let value = text_of(self.alloc(), number)?;
@@ -78,7 +79,7 @@ impl Player {
     /// The session reads the key of the next word.
     fn get_drawn(&mut self, session: u16) -> Result<(), NoMemory>
         requires { self.old.counts.events + 1 ≤ 18446744073709551615 }
-        ensures does { Does self.old self.new result (draws (λ w. asks session (Request.Get (key (w % 64))))) }
+        ensures does { Does A.stands self.old self.new result (draws (λ w. asks session (Request.Get (key (w % 64))))) }
         ensures room { self.new.counts.events ≤ self.old.counts.events + 1 }
     {
         let read = self.word() % 64;
@@ -89,7 +90,7 @@ impl Player {
     /// The session writes the text of the number to the key of the next word.
     fn put_drawn(&mut self, session: u16, number: u32) -> Result<(), NoMemory>
         requires { self.old.counts.events + 1 ≤ 18446744073709551615 }
-        ensures does { Does self.old self.new result (draws (λ w. asks session (Request.Put (key (w % 64)) (decimal number)))) }
+        ensures does { Does A.stands self.old self.new result (draws (λ w. asks session (Request.Put (key (w % 64)) (decimal number)))) }
         ensures room { self.new.counts.events ≤ self.old.counts.events + 1 }
     {
         let written = self.word() % 64;
@@ -100,7 +101,7 @@ impl Player {
     /// The session commits under SER.
     fn commit(&mut self, session: u16) -> Result<(), NoMemory>
         requires { self.old.counts.events + 1 ≤ 18446744073709551615 }
-        ensures does { Does self.old self.new result (commits_ser session) }
+        ensures does { Does A.stands self.old self.new result (commits_ser session) }
         ensures room { self.new.counts.events ≤ self.old.counts.events + 1 }
     {
         let flags = EndFlags::SER;
@@ -110,7 +111,7 @@ impl Player {
     /// The session begins, reads a key and writes to one.
     fn begin(&mut self, session: u16, i: u32) -> Result<(), NoMemory>
         requires { self.old.counts.events + 3 ≤ 18446744073709551615 }
-        ensures does { Does self.old self.new result (begins i session) }
+        ensures does { Does A.stands self.old self.new result (begins i session) }
         ensures room { self.new.counts.events ≤ self.old.counts.events + 3 }
     {
         let begin = Begin::Ancestor;
@@ -122,7 +123,7 @@ impl Player {
     /// One of the sessions 1 to 8 has its turn.
     fn turn(&mut self, i: u32) -> Result<(), NoMemory>
         requires { self.old.counts.events + 3 ≤ 18446744073709551615 }
-        ensures does { Does self.old self.new result (turn i) }
+        ensures does { Does A.stands self.old self.new result (turn i) }
         ensures room { self.new.counts.events ≤ self.old.counts.events + 3 }
     {
         let session = 1 + (self.word() % 8) as u16;
@@ -134,11 +135,11 @@ impl Player {
     }
 }
 
-impl Player {
+impl<A: AnySite> Player<A> {
     /// The merger writes the text of the number to each of these keys.
     fn put_each(&mut self, keys: &[Key], number: u32) -> Result<(), NoMemory>
         requires { self.old.counts.events + length keys.now ≤ 18446744073709551615 }
-        ensures does { Does self.old self.new result (each_of keys.now (λ k. asks 9 (Request.Put k (decimal number)))) }
+        ensures does { Does A.stands self.old self.new result (each_of keys.now (λ k. asks 9 (Request.Put k (decimal number)))) }
         ensures room { self.new.counts.events ≤ self.old.counts.events + length keys.now }
     {
         for key in keys {
@@ -152,7 +153,7 @@ impl Player {
     fn settle(&mut self, i: u32, reply: &Reply) -> Result<(), NoMemory>
         requires told { IsTold reply.now }
         requires room { self.old.counts.events + 256 ≤ 18446744073709551615 }
-        ensures does { Does self.old self.new result (settles i reply.now) }
+        ensures does { Does A.stands self.old self.new result (settles i reply.now) }
         ensures room { self.new.counts.events ≤ self.old.counts.events + 256 }
     {
         match reply {
@@ -164,7 +165,7 @@ impl Player {
     /// The merger aborts where the reply refuses its commit.
     fn abort_refused(&mut self, reply: &Reply) -> Result<(), NoMemory>
         requires { self.old.counts.events + 1 ≤ 18446744073709551615 }
-        ensures does { Does self.old self.new result (aborts reply.now) }
+        ensures does { Does A.stands self.old self.new result (aborts reply.now) }
         ensures room { self.new.counts.events ≤ self.old.counts.events + 1 }
     {
         match reply {
@@ -176,7 +177,7 @@ impl Player {
     /// The merger settles the conflicts of its merge.
     fn settle_conflicts(&mut self, i: u32) -> Result<(), NoMemory>
         requires { self.old.counts.events + 257 ≤ 18446744073709551615 }
-        ensures does { Does self.old self.new result (asks_then 9 (Request.Conflicts []) (settles i)) }
+        ensures does { Does A.stands self.old self.new result (asks_then 9 (Request.Conflicts []) (settles i)) }
         ensures room { self.new.counts.events ≤ self.old.counts.events + 257 }
     {
         let after = ByteList::new(self.alloc());
@@ -189,7 +190,7 @@ impl Player {
     /// The merger commits its merge, or gives it up.
     fn commit_merge(&mut self) -> Result<(), NoMemory>
         requires { self.old.counts.events + 2 ≤ 18446744073709551615 }
-        ensures does { Does self.old self.new result (asks_then 9 (Request.Commit (record { 0 = 0 }) 0) aborts) }
+        ensures does { Does A.stands self.old self.new result (asks_then 9 (Request.Commit (record { 0 = 0 }) 0) aborts) }
         ensures room { self.new.counts.events ≤ self.old.counts.events + 2 }
     {
         let flags = EndFlags(0);
@@ -202,7 +203,7 @@ impl Player {
     /// Where the reply says that a merge began, the merger settles its conflicts and commits.
     fn join(&mut self, i: u32, reply: &Reply) -> Result<(), NoMemory>
         requires { self.old.counts.events + 259 ≤ 18446744073709551615 }
-        ensures does { Does self.old self.new result (merges i reply.now) }
+        ensures does { Does A.stands self.old self.new result (merges i reply.now) }
         ensures room { self.new.counts.events ≤ self.old.counts.events + 259 }
     {
         match reply {
@@ -217,7 +218,7 @@ impl Player {
     /// The merger merges the leaves.
     fn merge(&mut self, i: u32) -> Result<(), NoMemory>
         requires { self.old.counts.events + 260 ≤ 18446744073709551615 }
-        ensures does { Does self.old self.new result (asks_then 9 (Request.BeginMerge MergeOf.Leaves) (merges i)) }
+        ensures does { Does A.stands self.old self.new result (asks_then 9 (Request.BeginMerge MergeOf.Leaves) (merges i)) }
         ensures room { self.new.counts.events ≤ self.old.counts.events + 260 }
     {
         let of = MergeOf::Leaves;
@@ -230,7 +231,7 @@ impl Player {
     /// The leaves are merged, the floor is raised, and closed states are collected.
     fn upkeep(&mut self, i: u32) -> Result<(), NoMemory>
         requires { self.old.counts.events + 262 ≤ 18446744073709551615 }
-        ensures does { Does self.old self.new result (upkeep i) }
+        ensures does { Does A.stands self.old self.new result (upkeep i) }
         ensures room { self.new.counts.events ≤ self.old.counts.events + 262 }
     {
         self.merge(i)?;
@@ -241,7 +242,7 @@ impl Player {
     /// Step i: a turn, and after each seventh the upkeep.
     fn step(&mut self, i: u32) -> Result<(), NoMemory>
         requires { self.old.counts.events + 265 ≤ 18446744073709551615 }
-        ensures does { Does self.old self.new result (one_step i) }
+        ensures does { Does A.stands self.old self.new result (one_step i) }
         ensures room { self.new.counts.events ≤ self.old.counts.events + 265 }
     {
         self.turn(i)?;
@@ -251,7 +252,7 @@ impl Player {
     /// The sessions 1 to 9 open.
     fn open_all(&mut self) -> Result<(), NoMemory>
         requires { self.old.counts.events + 9 ≤ 18446744073709551615 }
-        ensures does { Does self.old self.new result (each_to 9 opens) }
+        ensures does { Does A.stands self.old self.new result (each_to 9 opens) }
         ensures room { self.new.counts.events ≤ self.old.counts.events + 9 }
     {
         for place in 0..9u16 {
@@ -263,7 +264,7 @@ impl Player {
     /// So many steps are made.
     fn take_steps(&mut self, steps: u32) -> Result<(), NoMemory>
         requires { self.old.counts.events ≤ 9 }
-        ensures { Does self.old self.new result (each_to steps one_step) }
+        ensures { Does A.stands self.old self.new result (each_to steps one_step) }
     {
         for place in 0..steps {
             self.step(place + 1)?;
@@ -274,7 +275,7 @@ impl Player {
     /// Plays the whole script, with so many steps. The cost grows with the number of steps, and with the states that are kept.
     pub(crate) fn play(&mut self, steps: u32) -> Result<(), NoMemory>
         requires { self.old.counts.events ≡ 0 }
-        ensures { Does self.old self.new result (script steps) }
+        ensures { Does A.stands self.old self.new result (script steps) }
     {
         self.open_all()?;
         self.take_steps(steps)

@@ -24,8 +24,6 @@ use Rattle.plain_site.specs.Answers.{Answer, refused, given}
 use Rattle.plain_site.specs.Sound.{IsSound}
 use Rattle.plain_site.specs.Step.{step, step_over_bytes, is_sure}
 use Rattle.plain_site.specs.Laws.{RepliesToBytesFit}
-use Rattle.session_core.specs.Core.{Core}
-use Rattle.session_core.specs.Machine.{SiteStands}
 use Rattle.plain_world.specs.Worlds.{World, site_at, with_site, most_batches, item_at}
 use Rattle.plain_world.specs.Bodies.{StepAt, CarryTo, body_of, is_sure_body}
 use Rattle.plain_world.specs.Steps.{WorldAnswer, declined, answered, ask, step_at, carry, carry_to, world_step, step_over_body}
@@ -100,94 +98,12 @@ step_is : (world : World) (i actor : ℕ) (bytes : List ℕ) (site : Site) → s
     → step_over_bytes_at world (i + 1) actor bytes ≡ answered world (i + 1) (step_over_bytes site (actor, bytes)).0 (step_over_bytes site (actor, bytes)).1
 step_is world i actor bytes site there = step_given world i actor site there (request_of bytes)
 
--- ===== What is held
-
--- a site took a step, or none
-pub stepped : (cores : List Core) (bag : List Batch) (world : World) (i : ℕ) (core : Core) (site : Site) →
-    WorldStands (record { sites = cores; bag = bag }) world → SiteStands core site
-    → (new : List Batch) (all : List Batch) → new ≡ all → WorldStands (record { sites = slice_set cores i core; bag = new })
-    (record { sites = with_site world.sites (i + 1) site; bag = all })
-stepped cores bag world i core site stands one new all e = record {
-  sites = subst (λ s. AllStand (slice_set cores i core) s) (sym (set_there world.sites i site)) (all_set cores world.sites i core site stands.sites one);
-  bag = e;
-}
-
-pub unchanged : (cores : List Core) (bag : List Batch) (world : World) (i : ℕ) (core : Core) (site : Site) →
-    WorldStands (record { sites = cores; bag = bag }) world → slice_get world.sites i ≡ Some site → SiteStands core site
-    → (new : List Batch) → new ≡ bag → WorldStands (record { sites = slice_set cores i core; bag = new }) world
-unchanged cores bag world i core site stands there one new e = record {
-  sites = subst (λ s. AllStand (slice_set cores i core) s) (set_same world.sites i site there) (all_set cores world.sites i core site stands.sites one);
-  bag = e ∙ stands.bag;
-}
+-- ===== What is gathered
 
 -- what gathering does to a reply
 pub record Gathers (old new : List Batch) (result : Result (Unit {0}) NoMemory) (told out : List ℕ) : Type 0 where
   pub other : (reply : Reply) → told ≡ reply_spelling reply → is_batch_reply reply ≡ false → IsOk result × (new ≡ old) × (out ≡ told)
   pub batch : (batch : Batch) → told ≡ reply_spelling (BatchIs batch) → IsTrue (is_batch batch) → Joined old new batch result out
-
-other_gives : (cores : List Core) (old new : List Batch) (world : World) (i : ℕ) (core : Core) (answer : Answer) (result : Result (Unit {0}) NoMemory)
-    (told out : List ℕ)
-    → WorldStands (record { sites = cores; bag = old }) world → SiteStands core answer.0 → told ≡ reply_spelling answer.1 → IsOk result × (new ≡ old)
-    × (out ≡ told)
-    → WorldGives (WorldStands (record { sites = slice_set cores i core; bag = new })) (
-      record world { sites = with_site world.sites (i + 1) answer.0 },
-      answer.1,
-    ) world result out
-other_gives cores old new world i core answer (Ok done) told out stands one is r =
-    (stepped cores old world i core answer.0 stands one new world.bag (r.1 ∙ stands.bag), r.2 ∙ is)
-other_gives cores old new world i core answer (Err e) told out stands one is r = absurd (false_is_not_true r.0)
-
-joined_gives : (cores : List Core) (old new : List Batch) (world : World) (i : ℕ) (core : Core) (site next : Site) (b : Batch) (out : List ℕ) (t : Bool)
-    → WorldStands (record { sites = cores; bag = old }) world → slice_get world.sites i ≡ Some site → SiteStands core next → next ≡ site →
-    JoinedWhere t world.bag new b out
-    → WorldGives {E = NoMemory} (WorldStands (record { sites = slice_set cores i core; bag = new }))
-    (if t then declined world (BagFull (length world.bag)) else (
-      record { sites = with_site world.sites (i + 1) next; bag = world.bag ++ b ∷ [] },
-      BatchIs b,
-    )) world (Ok tt) out
-joined_gives cores old new world i core site next b out true stands there one same j =
-    (unchanged cores old world i core site stands there (subst (λ s. SiteStands core s) same one) new (j.0 ∙ sym stands.bag), j.1)
-joined_gives cores old new world i core site next b out false stands there one same j =
-    (stepped cores old world i core next stands one new (world.bag ++ b ∷ []) j.0, j.1)
-
-batch_gives : (cores : List Core) (old new : List Batch) (world : World) (i : ℕ) (core : Core) (site next : Site) (b : Batch)
-    (result : Result (Unit {0}) NoMemory) (out : List ℕ)
-    → WorldStands (record { sites = cores; bag = old }) world → slice_get world.sites i ≡ Some site → SiteStands core next → next ≡ site →
-    Joined old new b result out
-    → WorldGives (WorldStands (record { sites = slice_set cores i core; bag = new })) (answered world (i + 1) next (BatchIs b)) world result out
-batch_gives cores old new world i core site next b (Ok done) out stands there one same j =
-    joined_gives cores old new world i core site next b out (length world.bag == most_batches) stands there one same
-    (subst (λ bag. JoinedWhere (length bag == most_batches) bag new b out) stands.bag j)
-batch_gives cores old new world i core site next b (Err e) out stands there one same j =
-    (unchanged cores old world i core site stands there (subst (λ s. SiteStands core s) same one) new j.0, j.1)
-
--- the answer of a site that is there, and what was gathered of it
-pub acted : (cores : List Core) (old new : List Batch) (world : World) (i actor : ℕ) (bytes : List ℕ) (core : Core) (site : Site)
-    (result : Result (Unit {0}) NoMemory) (told out : List ℕ)
-    → WorldStands (record { sites = cores; bag = old }) world → slice_get world.sites i ≡ Some site → IsSound site → RepliesToBytesFit
-    → SiteStands core (step_over_bytes site (actor, bytes)).0 → told ≡ reply_spelling (step_over_bytes site (actor, bytes)).1 → Gathers old new result told out
-    → WorldGives (WorldStands (record { sites = slice_set cores i core; bag = new })) (step_over_bytes_at world (i + 1) actor bytes) world result out
-acted cores old new world i actor bytes core site result told out stands there sound fit one is gathers =
-    subst (λ a. WorldGives (WorldStands (record { sites = slice_set cores i core; bag = new })) a world result out)
-    (sym (step_is world i actor bytes site there))
-    (by-reply (step_over_bytes site (actor, bytes)).1 refl (batch_or_none (step_over_bytes site (actor, bytes)).1))
-  where
-    by-reply : (reply : Reply) → (step_over_bytes site (actor, bytes)).1 ≡ reply → (is_batch_reply reply ≡ false) ⊎ ((b : Batch) × (reply ≡ BatchIs b))
-        → WorldGives (WorldStands (record { sites = slice_set cores i core; bag = new }))
-        (answered world (i + 1) (step_over_bytes site (actor, bytes)).0 (step_over_bytes site (actor, bytes)).1) world result out
-    by-reply reply e (inl none) =
-        let no : is_batch_reply (step_over_bytes site (actor, bytes)).1 ≡ false = ap is_batch_reply e ∙ none in
-        subst (λ a. WorldGives (WorldStands (record { sites = slice_set cores i core; bag = new })) a world result out)
-        (sym (answered_other world (i + 1) (step_over_bytes site (actor, bytes)).0 (step_over_bytes site (actor, bytes)).1 no))
-        (other_gives cores old new world i core (step_over_bytes site (actor, bytes)) result told out stands one is
-        (gathers.other (step_over_bytes site (actor, bytes)).1 is no))
-    by-reply reply e (inr some) =
-        let f = e ∙ some.1 in
-        subst (λ r. WorldGives (WorldStands (record { sites = slice_set cores i core; bag = new }))
-        (answered world (i + 1) (step_over_bytes site (actor, bytes)).0 r) world result out) (sym f)
-        (batch_gives cores old new world i core site (step_over_bytes site (actor, bytes)).0 some.0 result out stands there one
-        ((judged site actor bytes).leaves (ap is_batch_reply f))
-        (gathers.batch some.0 (is ∙ ap reply_spelling f) (subst (λ r. IsTrue (is_reply r)) f (fit.valid site (actor, bytes) sound))))
 
 -- a request that memory can't fail is gathered
 pub surely_gathered : (old new : List Batch) (actor : ℕ) (bytes : List ℕ) (site : Site) (result : Result (Unit {0}) NoMemory) (told out : List ℕ)
@@ -195,6 +111,91 @@ pub surely_gathered : (old new : List Batch) (actor : ℕ) (bytes : List ℕ) (s
     ≡ true → IsOk result
 surely_gathered old new actor bytes site result told out is gathers sure =
     (gathers.other (step_over_bytes site (actor, bytes)).1 is ((judged site actor bytes).other sure)).0
+
+-- ===== What is held
+
+module _ {S : Type 0} (stands : S → Site → Type 0) where
+  -- a site took a step, or none
+  pub stepped : (cores : List S) (bag : List Batch) (world : World) (i : ℕ) (core : S) (site : Site) →
+      WorldStands stands (record { sites = cores; bag = bag }) world → stands core site
+      → (new : List Batch) (all : List Batch) → new ≡ all → WorldStands stands (record { sites = slice_set cores i core; bag = new })
+      (record { sites = with_site world.sites (i + 1) site; bag = all })
+  stepped cores bag world i core site held one new all e = record {
+    sites = subst (λ s. AllStand stands (slice_set cores i core) s) (sym (set_there world.sites i site)) (all_set stands cores world.sites i core site held.sites one);
+    bag = e;
+  }
+
+  pub unchanged : (cores : List S) (bag : List Batch) (world : World) (i : ℕ) (core : S) (site : Site) →
+      WorldStands stands (record { sites = cores; bag = bag }) world → slice_get world.sites i ≡ Some site → stands core site
+      → (new : List Batch) → new ≡ bag → WorldStands stands (record { sites = slice_set cores i core; bag = new }) world
+  unchanged cores bag world i core site held there one new e = record {
+    sites = subst (λ s. AllStand stands (slice_set cores i core) s) (set_same world.sites i site there) (all_set stands cores world.sites i core site held.sites one);
+    bag = e ∙ held.bag;
+  }
+
+  other_gives : (cores : List S) (old new : List Batch) (world : World) (i : ℕ) (core : S) (answer : Answer) (result : Result (Unit {0}) NoMemory)
+      (told out : List ℕ)
+      → WorldStands stands (record { sites = cores; bag = old }) world → stands core answer.0 → told ≡ reply_spelling answer.1 → IsOk result × (new ≡ old)
+      × (out ≡ told)
+      → WorldGives (WorldStands stands (record { sites = slice_set cores i core; bag = new })) (
+        record world { sites = with_site world.sites (i + 1) answer.0 },
+        answer.1,
+      ) world result out
+  other_gives cores old new world i core answer (Ok done) told out held one is r =
+      (stepped cores old world i core answer.0 held one new world.bag (r.1 ∙ held.bag), r.2 ∙ is)
+  other_gives cores old new world i core answer (Err e) told out held one is r = absurd (false_is_not_true r.0)
+
+  joined_gives : (cores : List S) (old new : List Batch) (world : World) (i : ℕ) (core : S) (site next : Site) (b : Batch) (out : List ℕ) (t : Bool)
+      → WorldStands stands (record { sites = cores; bag = old }) world → slice_get world.sites i ≡ Some site → stands core next → next ≡ site →
+      JoinedWhere t world.bag new b out
+      → WorldGives {E = NoMemory} (WorldStands stands (record { sites = slice_set cores i core; bag = new }))
+      (if t then declined world (BagFull (length world.bag)) else (
+        record { sites = with_site world.sites (i + 1) next; bag = world.bag ++ b ∷ [] },
+        BatchIs b,
+      )) world (Ok tt) out
+  joined_gives cores old new world i core site next b out true held there one same j =
+      (unchanged cores old world i core site held there (subst (λ s. stands core s) same one) new (j.0 ∙ sym held.bag), j.1)
+  joined_gives cores old new world i core site next b out false held there one same j =
+      (stepped cores old world i core next held one new (world.bag ++ b ∷ []) j.0, j.1)
+
+  batch_gives : (cores : List S) (old new : List Batch) (world : World) (i : ℕ) (core : S) (site next : Site) (b : Batch)
+      (result : Result (Unit {0}) NoMemory) (out : List ℕ)
+      → WorldStands stands (record { sites = cores; bag = old }) world → slice_get world.sites i ≡ Some site → stands core next → next ≡ site →
+      Joined old new b result out
+      → WorldGives (WorldStands stands (record { sites = slice_set cores i core; bag = new })) (answered world (i + 1) next (BatchIs b)) world result out
+  batch_gives cores old new world i core site next b (Ok done) out held there one same j =
+      joined_gives cores old new world i core site next b out (length world.bag == most_batches) held there one same
+      (subst (λ bag. JoinedWhere (length bag == most_batches) bag new b out) held.bag j)
+  batch_gives cores old new world i core site next b (Err e) out held there one same j =
+      (unchanged cores old world i core site held there (subst (λ s. stands core s) same one) new j.0, j.1)
+
+  -- the answer of a site that is there, and what was gathered of it
+  pub acted : (cores : List S) (old new : List Batch) (world : World) (i actor : ℕ) (bytes : List ℕ) (core : S) (site : Site)
+      (result : Result (Unit {0}) NoMemory) (told out : List ℕ)
+      → WorldStands stands (record { sites = cores; bag = old }) world → slice_get world.sites i ≡ Some site → IsSound site → RepliesToBytesFit
+      → stands core (step_over_bytes site (actor, bytes)).0 → told ≡ reply_spelling (step_over_bytes site (actor, bytes)).1 → Gathers old new result told out
+      → WorldGives (WorldStands stands (record { sites = slice_set cores i core; bag = new })) (step_over_bytes_at world (i + 1) actor bytes) world result out
+  acted cores old new world i actor bytes core site result told out held there sound fit one is gathers =
+      subst (λ a. WorldGives (WorldStands stands (record { sites = slice_set cores i core; bag = new })) a world result out)
+      (sym (step_is world i actor bytes site there))
+      (by-reply (step_over_bytes site (actor, bytes)).1 refl (batch_or_none (step_over_bytes site (actor, bytes)).1))
+    where
+      by-reply : (reply : Reply) → (step_over_bytes site (actor, bytes)).1 ≡ reply → (is_batch_reply reply ≡ false) ⊎ ((b : Batch) × (reply ≡ BatchIs b))
+          → WorldGives (WorldStands stands (record { sites = slice_set cores i core; bag = new }))
+          (answered world (i + 1) (step_over_bytes site (actor, bytes)).0 (step_over_bytes site (actor, bytes)).1) world result out
+      by-reply reply e (inl none) =
+          let no : is_batch_reply (step_over_bytes site (actor, bytes)).1 ≡ false = ap is_batch_reply e ∙ none in
+          subst (λ a. WorldGives (WorldStands stands (record { sites = slice_set cores i core; bag = new })) a world result out)
+          (sym (answered_other world (i + 1) (step_over_bytes site (actor, bytes)).0 (step_over_bytes site (actor, bytes)).1 no))
+          (other_gives cores old new world i core (step_over_bytes site (actor, bytes)) result told out held one is
+          (gathers.other (step_over_bytes site (actor, bytes)).1 is no))
+      by-reply reply e (inr some) =
+          let f = e ∙ some.1 in
+          subst (λ r. WorldGives (WorldStands stands (record { sites = slice_set cores i core; bag = new }))
+          (answered world (i + 1) (step_over_bytes site (actor, bytes)).0 r) world result out) (sym f)
+          (batch_gives cores old new world i core site (step_over_bytes site (actor, bytes)).0 some.0 result out held there one
+          ((judged site actor bytes).leaves (ap is_batch_reply f))
+          (gathers.batch some.0 (is ∙ ap reply_spelling f) (subst (λ r. IsTrue (is_reply r)) f (fit.valid site (actor, bytes) sound))))
 
 -- ===== Sites that aren't there
 

@@ -1,6 +1,7 @@
 //! A world's replies, as frames.
 
 use crate::worlds::World;
+use any_site::AnySite;
 use site_run::{Gathered, Responder, put_reply};
 use std::alloc::Global;
 use tardis_base::{MAX_FRAMED, NO_MEMORY, NoMemory, ReplyBuf};
@@ -19,7 +20,7 @@ impl WorldReplies {
     }
 }
 
-impl Responder<World> for WorldReplies {
+impl<A: AnySite> Responder<World<A>> for WorldReplies {
     ghost use Rattle.std.specs.Prelude.{[]};
     ghost use Rattle.tardis_base.specs.Sizes.{longest_framed};
     ghost use Rattle.plain_world.specs.Worlds.{World as Plain};
@@ -28,7 +29,7 @@ impl Responder<World> for WorldReplies {
 
     ghost State = { Plain };
 
-    ghost stands = { WorldStands };
+    ghost stands = { WorldStands A.stands };
 
     ghost may = { WorldMay };
 
@@ -38,7 +39,7 @@ impl Responder<World> for WorldReplies {
 
     const MOST: usize = MAX_FRAMED;
 
-    fn respond(&mut self, subject: &mut World, body: &[u8], out: &mut Gathered) {
+    fn respond(&mut self, subject: &mut World<A>, body: &[u8], out: &mut Gathered) {
         match subject.answer(body, &mut self.reply) {
             Ok(()) => put_reply(self.reply.bytes(), out),
             Err(NoMemory) => put_reply(&NO_MEMORY, out),

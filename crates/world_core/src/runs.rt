@@ -11,6 +11,7 @@ ghost use Rattle.world_core.specs.Runs.{WorldOutcome, WorldFrom};
 
 use crate::replies::WorldReplies;
 use crate::worlds::World;
+use any_site::AnySite;
 use site_run::answer_frames;
 use std::alloc::Global;
 use std::hash::RandomState;
@@ -21,7 +22,7 @@ use tardis_io::{Duplex, Pair, Sink, Source, Status};
 /// buffers and sites are taken first; where they aren't had, the answer is `Status::NoMemory`, and nothing was read.
 ///
 /// What bodies ask and how they are answered is stated in `docs/COMMANDS.md`.
-pub fn run_world<I: Source, O: Sink>(
+pub fn run_world<A: AnySite, I: Source, O: Sink>(
     alloc: Global,
     keys: RandomState,
     sites: u16,
@@ -43,21 +44,21 @@ pub fn run_world<I: Source, O: Sink>(
     ensures write { result ≡ Status.WriteFault → Rose (O.faults output.old) (O.faults output.new) }
     ensures nothing { result ≡ Status.NoMemory → (input.new ≡ input.old) × (output.new ≡ output.old) }
 {
-    match World::new(alloc, keys, sites) {
+    match World::<A>::new(alloc, keys, sites) {
         Ok(mut world) => answer_world(alloc, &mut world, input, output),
         Err(NoMemory) => Status::NoMemory,
     }
 }
 
 /// Answers the frames of an input from this world.
-fn answer_world<I: Source, O: Sink>(
+fn answer_world<A: AnySite, I: Source, O: Sink>(
     alloc: Global,
-    world: &mut World,
+    world: &mut World<A>,
     input: &mut I,
     output: &mut O,
 ) -> Status
     ensures outcome { WhileTold (I.left input.old) (I.left input.new)
-        (WorldOutcome result (WorldStands world.old) (WorldStands world.new) (O.given output.old) (O.given output.new)) }
+        (WorldOutcome result (WorldStands A.stands world.old) (WorldStands A.stands world.new) (O.given output.old) (O.given output.new)) }
     ensures exact { WhileTold (I.left input.old) (I.left input.new) (λ first left. (all : List (List ℕ)) (rest : List ℕ)
         → IsCut first all rest → length first < most_taken
         → (Rose (I.faults input.old) (I.faults input.new) → ⊥) → (Rose (O.faults output.old) (O.faults output.new) → ⊥)
@@ -73,9 +74,13 @@ fn answer_world<I: Source, O: Sink>(
 }
 
 /// The same over one device.
-fn answer_device<D: Duplex>(alloc: Global, world: &mut World, device: &mut D) -> Status
+fn answer_device<A: AnySite, D: Duplex>(
+    alloc: Global,
+    world: &mut World<A>,
+    device: &mut D,
+) -> Status
     ensures outcome { WhileTold (D.left device.old) (D.left device.new)
-        (WorldOutcome result (WorldStands world.old) (WorldStands world.new) (D.given device.old) (D.given device.new)) }
+        (WorldOutcome result (WorldStands A.stands world.old) (WorldStands A.stands world.new) (D.given device.old) (D.given device.new)) }
     ensures exact { WhileTold (D.left device.old) (D.left device.new) (λ first left. (all : List (List ℕ)) (rest : List ℕ)
         → IsCut first all rest → length first < most_taken
         → (Rose (D.take_faults device.old) (D.take_faults device.new) → ⊥) → (Rose (D.faults device.old) (D.faults device.new) → ⊥)

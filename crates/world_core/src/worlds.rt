@@ -6,7 +6,6 @@ ghost use Rattle.tardis_base.specs.Valid.{are_limits};
 ghost use Rattle.wire_talk.specs.RequestReadings.{request_of};
 ghost use Rattle.plain_site.specs.Site.{opening};
 ghost use Rattle.plain_site.specs.Step.{is_sure};
-ghost use Rattle.session_core.specs.Machine.{SiteStands};
 ghost use Rattle.plain_world.specs.Worlds.{World as Plain, opening_sites, opening_world, site_at, world_limits};
 ghost use Rattle.plain_world.specs.Bodies.{body_of, is_sure_body};
 ghost use Rattle.plain_world.specs.Steps.{carry_to, step_over_body};
@@ -17,43 +16,43 @@ ghost use Rattle.world_core.specs.Gives.{WorldGives};
 
 use crate::bags::{gather, kept_at, refuse, write_deliver};
 use crate::bodies::{Asked, read_body};
+use any_site::AnySite;
 use plain_site::replies::replies_fit_a_frame;
-use session_core::SiteCore;
 use std::alloc::Global;
 use std::hash::RandomState;
 use std::marker::Model;
 use tardis_base::{
-    Batch, Limits, ListOf, MAX_TRAIL, Machine, NoMemory, ReadFault, Refusal, ReplyBuf, USUAL_PATH,
+    Batch, Limits, ListOf, MAX_TRAIL, NoMemory, ReadFault, Refusal, ReplyBuf, USUAL_PATH,
     USUAL_SESSIONS,
 };
 use wire_talk::{read_request, talk_has_one_spelling};
 
 /// Sites 1 to M, and the bag: all batches that they gave, in order.
 #[derive(Drop)]
-pub struct World {
+pub struct World<A: AnySite> {
     alloc: Global,
-    sites: Vec<SiteCore>,
+    sites: Vec<A>,
     bag: ListOf<Batch>,
     deliver: ReplyBuf,
 }
 
-impl Model for World {
+impl<A: AnySite> Model for World<A> {
     ghost use Rattle.world_core.specs.Bags.{IsBag};
     ghost use Rattle.world_core.specs.Held.{Held};
 
-    ghost Value = { Held };
+    ghost Value = { Held A };
 
     ghost view = { λ w. record { sites = w.sites.items; bag = w.bag } };
 
     ghost invariant = { λ w. IsBag w.bag };
 }
 
-impl World {
+impl<A: AnySite> World<A> {
     /// So many sites, each as it opens, and an empty bag. The sites find their keys by hashing with this seed.
-    pub fn new(alloc: Global, keys: RandomState, sites: u16) -> Result<World, NoMemory>
+    pub fn new(alloc: Global, keys: RandomState, sites: u16) -> Result<World<A>, NoMemory>
         requires first { 1 ≤ sites }
         requires last { sites ≤ 16 }
-        ensures { IfOk result (λ held. WorldStands held (opening_world (world_limits sites))) }
+        ensures { IfOk result (λ held. WorldStands A.stands held (opening_world (world_limits sites))) }
     {
         let deliver = ReplyBuf::new(alloc)?;
         let open = open_sites(alloc, keys, sites)?;
@@ -70,9 +69,9 @@ impl World {
     ///
     /// A body that is neither is refused (Malformed).
     pub fn answer(&mut self, body: &[u8], out: &mut ReplyBuf) -> Result<(), NoMemory>
-        ensures answer { (world : Plain) → WorldStands self.old world
-            → WorldGives (WorldStands self.new) (step_over_body world body.now) world result out.new }
-        ensures sure { (world : Plain) → WorldStands self.old world → option_map_or is_sure_body (body_of body.now) false ≡ true → IsOk result }
+        ensures answer { (world : Plain) → WorldStands A.stands self.old world
+            → WorldGives (WorldStands A.stands self.new) (step_over_body world body.now) world result out.new }
+        ensures sure { (world : Plain) → WorldStands A.stands self.old world → option_map_or is_sure_body (body_of body.now) false ≡ true → IsOk result }
     {
         match read_body(body) {
             Some(
@@ -101,9 +100,9 @@ impl World {
         request: &[u8],
         out: &mut ReplyBuf,
     ) -> Result<(), NoMemory>
-        ensures answer { (world : Plain) → WorldStands self.old world
-            → WorldGives (WorldStands self.new) (step_over_bytes_at world site actor request.now) world result out.new }
-        ensures sure { (world : Plain) → WorldStands self.old world → option_map_or is_sure (request_of request.now) false ≡ true → IsOk result }
+        ensures answer { (world : Plain) → WorldStands A.stands self.old world
+            → WorldGives (WorldStands A.stands self.new) (step_over_bytes_at world site actor request.now) world result out.new }
+        ensures sure { (world : Plain) → WorldStands A.stands self.old world → option_map_or is_sure (request_of request.now) false ≡ true → IsOk result }
     {
         match self.place_of(site) {
             Some(place) => {
@@ -125,8 +124,8 @@ impl World {
         item: u32,
         out: &mut ReplyBuf,
     ) -> Result<(), NoMemory>
-        ensures { (world : Plain) → WorldStands self.old world
-            → WorldGives (WorldStands self.new) (carry_to world to batch item) world result out.new }
+        ensures { (world : Plain) → WorldStands A.stands self.old world
+            → WorldGives (WorldStands A.stands self.new) (carry_to world to batch item) world result out.new }
     {
         match self.place_of(to) {
             Some(place) => {
@@ -181,20 +180,25 @@ fn site_limits(sites: u16) -> Limits
 }
 
 /// The site of this number, of so many, as it opens.
-fn open_site(alloc: Global, keys: RandomState, sites: u16, own: u16) -> Result<SiteCore, NoMemory>
+fn open_site<A: AnySite>(
+    alloc: Global,
+    keys: RandomState,
+    sites: u16,
+    own: u16,
+) -> Result<A, NoMemory>
     requires first { 1 ≤ own }
     requires last { own ≤ sites }
     requires few { sites ≤ 16 }
-    ensures { IfOk result (λ core. SiteStands core (opening (world_limits sites) own)) }
+    ensures { IfOk result (λ core. A.stands core (opening (world_limits sites) own)) }
 {
-    SiteCore::new(alloc, keys, site_limits(sites), own)
+    A::open(alloc, keys, site_limits(sites), own)
 }
 
 /// So many sites that open, in the order of their numbers.
-fn open_sites(alloc: Global, keys: RandomState, sites: u16) -> Result<Vec<SiteCore>, NoMemory>
+fn open_sites<A: AnySite>(alloc: Global, keys: RandomState, sites: u16) -> Result<Vec<A>, NoMemory>
     requires first { 1 ≤ sites }
     requires last { sites ≤ 16 }
-    ensures { IfOk result (λ made. AllStand made.items (opening_sites (world_limits sites) 1 sites)) }
+    ensures { IfOk result (λ made. AllStand A.stands made.items (opening_sites (world_limits sites) 1 sites)) }
 {
     let mut made = Vec::new(alloc);
     let mut count = 0;
@@ -206,17 +210,17 @@ fn open_sites(alloc: Global, keys: RandomState, sites: u16) -> Result<Vec<SiteCo
 }
 
 /// Opens one more site behind so many.
-fn open_next(
+fn open_next<A: AnySite>(
     alloc: Global,
     keys: RandomState,
     sites: u16,
     count: u16,
-    made: &mut Vec<SiteCore>,
+    made: &mut Vec<A>,
 ) -> Result<(), NoMemory>
     requires next { count < sites }
     requires few { sites ≤ 16 }
-    ensures { AllStand made.old.items (opening_sites (world_limits sites) 1 count)
-        → OnOk result (AllStand made.new.items (opening_sites (world_limits sites) 1 (count + 1))) }
+    ensures { AllStand A.stands made.old.items (opening_sites (world_limits sites) 1 count)
+        → OnOk result (AllStand A.stands made.new.items (opening_sites (world_limits sites) 1 (count + 1))) }
 {
     let site = open_site(alloc, keys, sites, count + 1)?;
     put(made, site)
@@ -231,9 +235,9 @@ fn put<T: Drop>(items: &mut Vec<T>, item: T) -> Result<(), NoMemory>
 }
 
 /// A step at a site that is there: what it gives joins the bag.
-fn act_at(
+fn act_at<A: AnySite>(
     alloc: Global,
-    sites: &mut [SiteCore],
+    sites: &mut [A],
     bag: &mut ListOf<Batch>,
     place: usize,
     actor: u16,
@@ -241,9 +245,9 @@ fn act_at(
     out: &mut ReplyBuf,
 ) -> Result<(), NoMemory>
     requires { place < length sites.old }
-    ensures answer { (world : Plain) → WorldStands (record { sites = sites.old; bag = bag.old }) world
-        → WorldGives (WorldStands (record { sites = sites.new; bag = bag.new })) (step_over_bytes_at world (place + 1) actor request.now) world result out.new }
-    ensures sure { (world : Plain) → WorldStands (record { sites = sites.old; bag = bag.old }) world
+    ensures answer { (world : Plain) → WorldStands A.stands (record { sites = sites.old; bag = bag.old }) world
+        → WorldGives (WorldStands A.stands (record { sites = sites.new; bag = bag.new })) (step_over_bytes_at world (place + 1) actor request.now) world result out.new }
+    ensures sure { (world : Plain) → WorldStands A.stands (record { sites = sites.old; bag = bag.old }) world
         → option_map_or is_sure (request_of request.now) false ≡ true → IsOk result }
     ensures bag { IsBag bag.old → IsBag bag.new }
 {
@@ -255,9 +259,9 @@ fn act_at(
 }
 
 /// A carry to a site that is there. The request to deliver the item is written into a buffer of its own.
-fn carry_at(
+fn carry_at<A: AnySite>(
     alloc: Global,
-    sites: &mut [SiteCore],
+    sites: &mut [A],
     bag: &mut ListOf<Batch>,
     deliver: &mut ReplyBuf,
     place: usize,
@@ -267,8 +271,8 @@ fn carry_at(
 ) -> Result<(), NoMemory>
     requires place { place < length sites.old }
     requires bag { IsBag bag.old }
-    ensures answer { (world : Plain) → WorldStands (record { sites = sites.old; bag = bag.old }) world
-        → WorldGives (WorldStands (record { sites = sites.new; bag = bag.new })) (carry_to world (place + 1) batch item) world result out.new }
+    ensures answer { (world : Plain) → WorldStands A.stands (record { sites = sites.old; bag = bag.old }) world
+        → WorldGives (WorldStands A.stands (record { sites = sites.new; bag = bag.new })) (carry_to world (place + 1) batch item) world result out.new }
     ensures bag { IsBag bag.new }
 {
     talk_has_one_spelling();

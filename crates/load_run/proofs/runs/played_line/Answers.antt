@@ -7,9 +7,9 @@ use Rattle.load_run.proofs.runs.played_line.Goals as goal
 
 pub returns : goal.returns
 unfolding load_line
-returns c =
+returns g c =
     let play = played c.args.start c.args.steps in
-    let there : Plays c.play.new.self play = c.in_ok-play.ensures (opening_play c.args.start) c.requires.opens in
+    let there : Plays g.A.AnySite.stands c.play.new.self play = c.in_ok-play.ensures (opening_play c.args.start) c.requires.opens in
     let told : Counts → ℕ → ℕ → Type 0 = λ n x y. IfOk c.line_of.result (λ line. line.items ≡ line_of c.args.start c.args.steps n x y) in
     subst (λ n. told n (known play.site) (kept play.site)) (c.counts.ensures ∙ there.counts)
     (subst (λ x. told c.counts.result x (kept play.site)) (c.states-known.ensures.known play there)

@@ -8,5 +8,5 @@ use Rattle.world_core.proofs.runs.answer_device.Goals as goal
 pub returns-in-Err-clause-outcome : goal.returns-in-Err-clause-outcome
 returns-in-Err-clause-outcome g c =
     same (g.D.Duplex.left c.args.device.now)
-    (WorldOutcome NoMemory (WorldStands c.args.world.now) (WorldStands c.args.world.now) (g.D.Sink.given c.args.device.now) (g.D.Sink.given c.args.device.now))
-    (λ x. no_run (WorldStands c.args.world.now) (WorldStands c.args.world.now) (g.D.Sink.given c.args.device.now) x (λ w h. h))
+    (WorldOutcome NoMemory (WorldStands g.A.AnySite.stands c.args.world.now) (WorldStands g.A.AnySite.stands c.args.world.now) (g.D.Sink.given c.args.device.now) (g.D.Sink.given c.args.device.now))
+    (λ x. no_run (WorldStands g.A.AnySite.stands c.args.world.now) (WorldStands g.A.AnySite.stands c.args.world.now) (g.D.Sink.given c.args.device.now) x (λ w h. h))

@@ -14,10 +14,10 @@ returns-in-Ok-clause-outcome g c =
     let old = g.O.Sink.given c.args.output.now in
     let new = g.O.Sink.given c.answer_world.new.output in
     weaker (g.I.Source.left c.args.input.now) (g.I.Source.left c.answer_world.new.input)
-    (WorldOutcome status (WorldStands c.in-Ok.world) (WorldStands c.answer_world.new.world) old new)
+    (WorldOutcome status (WorldStands g.A.AnySite.stands c.in-Ok.world) (WorldStands g.A.AnySite.stands c.answer_world.new.world) old new)
     (WorldFrom world status old new)
     c.answer_world.ensures.outcome
-    (λ x y o. run_from world (WorldStands c.in-Ok.world) (WorldStands c.answer_world.new.world) status old new x y c.in-Ok.ensures o)
+    (λ x y o. run_from world (WorldStands g.A.AnySite.stands c.in-Ok.world) (WorldStands g.A.AnySite.stands c.answer_world.new.world) status old new x y c.in-Ok.ensures o)
 
 pub returns-in-Err-clause-outcome : goal.returns-in-Err-clause-outcome
 returns-in-Err-clause-outcome g c =

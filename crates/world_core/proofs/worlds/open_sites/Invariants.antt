@@ -4,10 +4,10 @@ use Rattle.world_core.specs.Held.{AllStand}
 use Rattle.world_core.proofs.worlds.open_sites.Given as goal
 
 abbrev pub invariant-loop-count : goal.invariant-loop-count
-invariant-loop-count l = record {
-  all : AllStand l.made.items (opening_sites (world_limits l.sites) 1 l.count);
+invariant-loop-count g l = record {
+  all : AllStand g.A.AnySite.stands l.made.items (opening_sites (world_limits l.sites) 1 l.count);
   within : l.count ≤ l.sites;
 }
 
 abbrev pub decreases-loop-count : goal.decreases-loop-count
-decreases-loop-count l = l.sites - l.count
+decreases-loop-count g l = l.sites - l.count

@@ -6,9 +6,9 @@ use Rattle.load_run.proofs.players.Player.ask.Goals as goal
 
 pub returns-clause-asked : goal.returns-clause-asked
 unfolding asks reply_to stepped
-returns-clause-asked c = λ play h.
+returns-clause-asked g c = λ play h.
     let given = c.in_ok-reply.ensures.replied play h in
-    let here = subst (λ v. Plays v (stepped c.args.actor c.args.request play)) (sym c.self.view_is) given.0 in (
+    let here = subst (λ v. Plays g.A.AnySite.stands v (stepped c.args.actor c.args.request play)) (sym c.self.view_is) given.0 in (
       record {
         site = here.site;
         words = here.words;

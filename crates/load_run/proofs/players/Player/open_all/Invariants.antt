@@ -5,7 +5,7 @@ use Rattle.load_run.specs.Held.{Plays}
 use Rattle.load_run.proofs.players.Player.open_all.Given as goal
 
 abbrev pub invariant-loop-place : goal.invariant-loop-place
-invariant-loop-place l = record {
-  does : (play : Play) → Plays l.fn.self play → Plays l.self (each_to l.place opens play);
+invariant-loop-place g l = record {
+  does : (play : Play) → Plays g.A.AnySite.stands l.fn.self play → Plays g.A.AnySite.stands l.self (each_to l.place opens play);
   room : l.self.counts.events ≤ l.fn.self.counts.events + l.place;
 }

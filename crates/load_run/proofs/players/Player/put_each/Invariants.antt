@@ -5,7 +5,7 @@ use Rattle.load_run.specs.Held.{Plays}
 use Rattle.load_run.proofs.players.Player.put_each.Given as goal
 
 abbrev pub invariant-loop-key : goal.invariant-loop-key
-invariant-loop-key l = record {
-  does : (play : Play) → Plays l.fn.self play → Plays l.self (each_of (take l.key-index l.keys) (λ k. asks 9 (Put k (decimal l.number))) play);
+invariant-loop-key g l = record {
+  does : (play : Play) → Plays g.A.AnySite.stands l.fn.self play → Plays g.A.AnySite.stands l.self (each_of (take l.key-index l.keys) (λ k. asks 9 (Put k (decimal l.number))) play);
   room : l.self.counts.events ≤ l.fn.self.counts.events + l.key-index;
 }

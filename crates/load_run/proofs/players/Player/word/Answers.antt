@@ -7,8 +7,8 @@ use Rattle.load_run.proofs.players.Player.word.Goals as goal
 
 pub returns-clause-drew : goal.returns-clause-drew
 unfolding word drawn
-returns-clause-drew c = λ play h.
-    let here = subst (λ v. Plays v play) (sym c.self.view_is) h in (
+returns-clause-drew g c = λ play h.
+    let here = subst (λ v. Plays g.A.AnySite.stands v play) (sym c.self.view_is) h in (
       record {
         site = here.site;
         words = ap (λ (p : ℕ × Lcg). p.1) c.next_word.ensures ∙ ap (λ w. (pcg32 w).1) here.words;

@@ -10,19 +10,19 @@ use Rattle.world_core.proofs.Lists.{false_is_not_true}
 use Rattle.world_core.proofs.replies.WorldRepliesResponderWorld.respond.Goals as goal
 
 pub returns-in-Ok-clause-answer : goal.returns-in-Ok-clause-answer
-returns-in-Ok-clause-answer c = λ s f.
-    let g = c.in-Ok.ensures.answer s f in
-    responded (WorldStands c.answer.new.self) s (step_over_body s c.args.body.now).0 c.args.body.now c.args.out.now.bytes c.put_reply.new.out.bytes
+returns-in-Ok-clause-answer g c = λ s f.
+    let given = c.in-Ok.ensures.answer s f in
+    responded (WorldStands g.A.AnySite.stands c.answer.new.self) s (step_over_body s c.args.body.now).0 c.args.body.now c.args.out.now.bytes c.put_reply.new.out.bytes
     c.bytes.result.now
-    (inl (c.bytes.ensures.same ∙ g.1, refl)) g.0 c.put_reply.ensures.bytes
+    (inl (c.bytes.ensures.same ∙ given.1, refl)) given.0 c.put_reply.ensures.bytes
 
 pub returns-in-Err-clause-answer : goal.returns-in-Err-clause-answer
-returns-in-Err-clause-answer c = λ s f.
-    let g = c.in-Err.ensures.answer s f in
-    responded (WorldStands c.answer.new.self) s s c.args.body.now c.args.out.now.bytes c.put_reply-in-Err.new.out.bytes no_memory
+returns-in-Err-clause-answer g c = λ s f.
+    let given = c.in-Err.ensures.answer s f in
+    responded (WorldStands g.A.AnySite.stands c.answer.new.self) s s c.args.body.now c.args.out.now.bytes c.put_reply-in-Err.new.out.bytes no_memory
     (inr (
       refl,
       false_from_ne_true (option_map_or is_sure_body (body_of c.args.body.now) false)
           (λ sure. false_is_not_true (c.in-Err.ensures.sure s f sure)),
       refl,
-    )) g.0 c.put_reply-in-Err.ensures.bytes
+    )) given.0 c.put_reply-in-Err.ensures.bytes
