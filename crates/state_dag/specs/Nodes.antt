@@ -3,7 +3,6 @@ use Rattle.std.specs.Prelude.{◌≡◌, ℕ, ◌+◌, ◌≤◌, ◌<◌, Bool,
 use Rattle.std.specs.Prelude.{Err, IsTrue, nat_lt, slice_get, slice_set, slice_index_or, unwrap_or, if◌then◌else◌, ⊤}
 use Rattle.std.specs.List.{list_any, list_all, flat_map}
 use Rattle.std.specs.Option.{option_map_or}
-use Rattle.smallvec.specs.SmallVec.{HasRoomFor}
 use Rattle.tardis_base.specs.declared.ids.StateId.{StateId}
 use Rattle.tardis_base.specs.declared.ids.Slot.{Slot}
 use Rattle.tardis_base.specs.declared.faults.AddFault.{AddFault}
@@ -132,7 +131,7 @@ HasPathRoom nodes gains = (k : ℕ) (d : Node) → k < length nodes → gains_of
 
 -- there is room for a child
 abbrev pub TakesChild : Node → Type 0
-TakesChild node = HasRoomFor node.children 1 × HasRoomFor node.stand_ins 1
+TakesChild node = (0 < node.children.room) × (0 < node.stand_ins.room)
 
 -- each parent has room for a child
 abbrev pub HasChildRoom : List Node → List Slot → Type 0

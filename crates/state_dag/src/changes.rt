@@ -3,7 +3,6 @@
 ghost use Rattle.std.specs.Prelude.{◌≡◌, ℕ, ◌+◌, ◌-◌, ◌^◌, ◌<◌, ◌≤◌, ◌++◌, [], ◌∷◌, Bool, false, length, IsTrue, vec_len, vec_capacity};
 ghost use Rattle.std.specs.Prelude.{slice_index_or, slice_set};
 ghost use Rattle.std.specs.List.{list_all};
-ghost use Rattle.smallvec.specs.SmallVec.{HasRoomFor};
 ghost use Rattle.tardis_base.specs.declared.ids.Slot.{Slot};
 ghost use Rattle.state_dag.specs.declared.nodes.Node.{Node};
 ghost use Rattle.state_dag.specs.Grown.{is_slot_among, KeepsPlaces};
@@ -76,8 +75,8 @@ fn add_children(nodes: &mut Vec<Node>, parents: &[Slot], id: StateId, slot: Slot
 /// Gives the node a child, where there is room.
 fn add_child(node: &mut Node, id: StateId, slot: Slot)
     ensures rest { node.new ≡ record node.old { children = node.new.children; stand_ins = node.new.stand_ins } }
-    ensures children { HasRoomFor node.old.children 1 → node.new.children.items ≡ node.old.children.items ++ id ∷ [] }
-    ensures stand_ins { HasRoomFor node.old.stand_ins 1 → node.new.stand_ins.items ≡ node.old.stand_ins.items ++ slot ∷ [] }
+    ensures children { 0 < node.old.children.room → node.new.children.items ≡ node.old.children.items ++ id ∷ [] }
+    ensures stand_ins { 0 < node.old.stand_ins.room → node.new.stand_ins.items ≡ node.old.stand_ins.items ++ slot ∷ [] }
     ensures longer { length node.old.children.items ≤ length node.new.children.items }
     ensures slots { (test : Slot → Bool) → IsTrue (list_all test node.old.stand_ins.items) → IsTrue (test slot)
         → IsTrue (list_all test node.new.stand_ins.items) }

@@ -12,6 +12,7 @@ ghost use Rattle.state_dag.specs.Nodes.{table_of, are_places};
 ghost use Rattle.state_dag.specs.Detached.{passed_on, passing_on, forgetting, changed_at};
 
 use crate::nodes::{Node, first_from};
+use short_list::ShortList;
 use tardis_base::Slot;
 
 /// The place of the first of the states before this place that arrived no sooner than so many others, or this place. The
@@ -70,15 +71,16 @@ fn pass_children(node: &mut Node, gone: Slot, heir: Slot)
     ensures entry { (k : ℕ) → entry_of k node.new ≡ passing_on gone heir (entry_of k node.old) }
     ensures path { node.new.path ≡ node.old.path }
 {
-    pass_slots(node.stand_ins.as_mut_slice(), gone, heir);
+    pass_slots(&mut node.stand_ins, gone, heir);
 }
 
 /// Puts the heir in place of the slot that goes.
-fn pass_slots(slots: &mut [Slot], gone: Slot, heir: Slot)
-    ensures { slots.new ≡ map (passed_on gone heir) slots.old }
+fn pass_slots(slots: &mut ShortList<Slot>, gone: Slot, heir: Slot)
+    ensures { slots.new.items ≡ map (passed_on gone heir) slots.old.items }
 {
     for place in 0..slots.len() {
-        slots[place] = passed_on(slots[place], gone, heir);
+        let slot = passed_on(slots.as_slice()[place], gone, heir);
+        slots.set(place, slot);
     }
 }
 

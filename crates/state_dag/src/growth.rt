@@ -9,7 +9,7 @@ ghost use Rattle.state_dag.specs.Nodes.{table_of, table_after, are_places, Tells
 use crate::new_paths::new_path;
 use crate::nodes::Node;
 use crate::sums::in_u32;
-use smallvec::SmallVec;
+use short_list::ShortList;
 use std::alloc::Global;
 use tardis_base::{AddFault, Limits, NoMemory, Slot, StateId};
 
@@ -30,18 +30,18 @@ pub fn new_node(
         id,
         arrival,
         parents,
-        children: SmallVec::new(alloc),
-        stand_ins: SmallVec::new(alloc),
+        children: ShortList::new(alloc),
+        stand_ins: ShortList::new(alloc),
         path,
     })
 }
 
 /// The ids of the states at the slots.
-fn ids_at(alloc: Global, nodes: &[Node], slots: &[Slot]) -> Result<SmallVec<StateId, 2>, NoMemory>
+fn ids_at(alloc: Global, nodes: &[Node], slots: &[Slot]) -> Result<ShortList<StateId>, NoMemory>
     requires { IsTrue (are_places nodes.now slots.now) }
     ensures { IfOk result (λ ids. map (λ x. Some x) ids.items ≡ map (id_at (table_of nodes.now)) slots.now) }
 {
-    let mut ids = SmallVec::new(alloc);
+    let mut ids = ShortList::new(alloc);
     for slot in slots {
         ids.push(nodes[slot.0 as usize].id)?;
     }

@@ -10,7 +10,7 @@ ghost use Rattle.state_dag.specs.Table.{entry_at, arrival_at, is_entry_above, on
 ghost use Rattle.state_dag.specs.Views.{entry_of};
 
 use fork_path::ForkPath;
-use smallvec::SmallVec;
+use short_list::ShortList;
 use std::alloc::Global;
 use tardis_base::{Slot, StateId};
 
@@ -19,9 +19,9 @@ use tardis_base::{Slot, StateId};
 pub struct Node {
     pub id: StateId,
     pub arrival: u64,
-    pub parents: SmallVec<StateId, 2>,
-    pub children: SmallVec<StateId, 2>,
-    pub stand_ins: SmallVec<Slot, 2>,
+    pub parents: ShortList<StateId>,
+    pub children: ShortList<StateId>,
+    pub stand_ins: ShortList<Slot>,
     pub path: ForkPath,
 }
 
@@ -37,9 +37,9 @@ pub fn root_node(alloc: Global) -> Node
     Node {
         id: StateId::ROOT,
         arrival: 0,
-        parents: SmallVec::new(alloc),
-        children: SmallVec::new(alloc),
-        stand_ins: SmallVec::new(alloc),
+        parents: ShortList::new(alloc),
+        children: ShortList::new(alloc),
+        stand_ins: ShortList::new(alloc),
         path: ForkPath::new(alloc),
     }
 }

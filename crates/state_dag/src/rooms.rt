@@ -95,7 +95,7 @@ fn make_room_at(node: &mut Node) -> Result<(), NoMemory>
     ensures room { OnOk result (TakesChild node.new) }
     ensures kept { TakesChild node.old → TakesChild node.new }
 {
-    node.children.reserve(1)?;
-    node.stand_ins.reserve(1)?;
+    node.children.reserve()?;
+    node.stand_ins.reserve()?;
     Ok(())
 }

@@ -21,7 +21,7 @@ ghost use Rattle.state_dag.specs.declared.rows.RowFault.{RowFault};
 use crate::StateDag;
 use crate::changes::set_count;
 use crate::nodes::Node;
-use smallvec::SmallVec;
+use short_list::ShortList;
 use std::alloc::Global;
 use std::error::Error;
 use std::fmt;
@@ -132,10 +132,10 @@ impl StateDag {
 }
 
 /// This one alone.
-fn only(alloc: Global, id: StateId) -> SmallVec<StateId, 2>
+fn only(alloc: Global, id: StateId) -> ShortList<StateId>
     ensures { result.items ≡ id ∷ [] }
 {
-    let mut ids = SmallVec::new(alloc);
+    let mut ids = ShortList::new(alloc);
     let _ = ids.push(id);
     ids
 }
@@ -146,7 +146,7 @@ fn move_on(
     slot: Slot,
     id: StateId,
     arrival: u64,
-    parents: SmallVec<StateId, 2>,
+    parents: ShortList<StateId>,
 )
     requires { slot.0 < length nodes.old.items }
     ensures { (d : Node) → nodes.new.items

@@ -204,7 +204,7 @@ has-left c =
     let p = c.place-place.result in
     let w = parts c in
     let fork = ltb 1 c.len-is_fork.result in
-    let children : c.len-is_fork.result ≡ length n.children.items = c.len-is_fork.ensures.value in
+    let children : c.len-is_fork.result ≡ length n.children.items = c.len-is_fork.ensures in
     record {
       before = entries_in a.nodes.items w.xs;
       behind = entries_in a.nodes.items w.zs;

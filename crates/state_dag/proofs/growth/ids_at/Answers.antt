@@ -20,7 +20,7 @@ loop-slot-preserved c =
     let node = c.index-nodes-slot.result in
     let some : StateId → Option StateId = λ x. Some x in
     let push : List (Option StateId) → Option StateId → List (Option StateId) = λ xs x. xs ++ x ∷ [] in
-    ap (map some) c.in_ok-push.ensures.ok
+    ap (map some) c.in_ok-push.ensures.items
     ∙ map_push some c.loop-slot.ids.items (get_or nodes place node).id
     ∙ ap₂ push c.loop-slot.invariant (sym (id-found nodes place node (place-within nodes slots i none c.requires (omega arith))))
     ∙ sym (map_more (id_at (table_of nodes)) slots i none (omega arith))

@@ -31,7 +31,7 @@ loop-parent-preserved c =
     let table = table_of nodes in
     let test = λ (pair : ℕ × ℕ) (p : Slot). is_same_pair pair (p.0, number_of_children table p) && leb 1 (number_of_children table p) in
     let number : number_of_children table (get_or ps i none) ≡ c.in_ok-branch.branch =
-    children-found nodes place c.index-nodes-parent.result (place-within nodes ps i none c.requires (omega arith)) ∙ sym c.len.ensures.value ∙ sym c.in_ok-branch.ensures.is in
+    children-found nodes place c.index-nodes-parent.result (place-within nodes ps i none c.requires (omega arith)) ∙ sym c.len.ensures ∙ sym c.in_ok-branch.ensures.is in
     let old = λ (pair : ℕ × ℕ). has_pair pair c.args.path.now.pairs in
     let now = λ (pair : ℕ × ℕ). has_pair pair c.loop-parent.path.pairs in
     let next = λ (pair : ℕ × ℕ). has_pair pair c.if-branch-gt0.path.pairs in
