@@ -1,3 +1,1 @@
--- What a site is asked, and what it gives.
-pub mod Gives
-pub mod Joins
+-- Any site is told of in the words of the plain one.

@@ -8,7 +8,7 @@ use Rattle.plain_dag.specs.Floors.{Session}
 use Rattle.plain_site.specs.Site.{Site}
 use Rattle.plain_site.specs.Answers.{Answer, refused}
 use Rattle.plain_site.specs.Sound.{IsSound}
-pub use Rattle.any_site.specs.Gives.{IsGiven, Gives}
+pub use Rattle.stored_site.specs.Gives.{IsGiven, Gives}
 use Rattle.session_core.specs.Core.{Core}
 use Rattle.session_core.specs.Stands.{CoreStands}
 use Rattle.session_core.specs.declared.stops.Stop.{Stop}

@@ -22,7 +22,7 @@ use Rattle.plain_site.specs.Sound.{IsSound}
 use Rattle.plain_site.specs.Answers.{Answer, refused, with_txn, found}
 use Rattle.plain_site.specs.Reads.{get, having_read}
 use Rattle.plain_site.specs.Step.{step, step_over_bytes}
-pub use Rattle.any_site.specs.Gives.{IsTold}
+pub use Rattle.stored_site.specs.Gives.{IsTold}
 use Rattle.session_core.specs.Core.{Core}
 use Rattle.session_core.specs.Gives.{Stops, GivesOrStops}
 use Rattle.session_core.specs.Stands.{CoreStands}

@@ -1,13 +1,12 @@
-//! The site in memory, as what commands ask of a site.
+//! The site in memory, as what commands ask of a site, and of one that lends its store.
 
 use crate::SiteCore;
 use any_site::AnySite;
 use record_store::RecordStore;
 use std::alloc::Global;
 use std::hash::RandomState;
-use tardis_base::{
-    Limits, Machine, NoMemory, Refusal, Reply, ReplyBuf, Request, Slot, WriteSet,
-};
+use stored_site::StoredSite;
+use tardis_base::{Limits, Machine, NoMemory, Refusal, Reply, ReplyBuf, Request, Slot, WriteSet};
 
 impl AnySite for SiteCore {
     ghost use Rattle.session_core.specs.Machine.{SiteStands, opened_with};
@@ -16,15 +15,24 @@ impl AnySite for SiteCore {
 
     ghost opened = { opened_with };
 
-    ghost kept = { λ core. core.store };
-
-    fn open(alloc: Global, keys: RandomState, limits: Limits, own: u16) -> Result<SiteCore, NoMemory> {
+    fn open(
+        alloc: Global,
+        keys: RandomState,
+        limits: Limits,
+        own: u16,
+    ) -> Result<SiteCore, NoMemory> {
         SiteCore::new(alloc, keys, limits, own)
     }
 
     fn act(&mut self, actor: u16, request: &[u8], out: &mut ReplyBuf) -> Result<(), NoMemory> {
         Machine::act(self, actor, request, out)
     }
+
+    ghost sound = { λ core site stands. stands.1 };
+}
+
+impl StoredSite for SiteCore {
+    ghost kept = { λ core. core.store };
 
     fn step(&mut self, actor: u16, request: &Request) -> Result<Reply, NoMemory> {
         self.step(actor, request)
@@ -50,8 +58,6 @@ impl AnySite for SiteCore {
     ) -> Result<Reply, NoMemory> {
         self.commit_merge(actor, below, writes)
     }
-
-    ghost sound = { λ core site stands. stands.1 };
 
     ghost keeps = { λ core site stands. stands.0.store };
 }
