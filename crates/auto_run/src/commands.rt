@@ -8,17 +8,17 @@ ghost use Rattle.auto_run.specs.Outcomes.{AutoFrom};
 
 use crate::ruled_sites::RuledSite;
 use crate::runs::run_auto;
-use any_site::AnySite;
 use rule_list::RuleList;
 use std::alloc::Global;
 use std::hash::RandomState;
+use stored_site::StoredSite;
 use tardis_base::{Limits, NoMemory};
 use tardis_io::{Sink, Source, Status};
 
 /// Answers lines as `run_auto` does, by these rules, for the site of this number, with these limits.
 ///
 /// Keys are found by hashing with this seed.
-pub fn auto<A: AnySite, I: Source, O: Sink>(
+pub fn auto<A: StoredSite, I: Source, O: Sink>(
     alloc: Global,
     keys: RandomState,
     limits: Limits,

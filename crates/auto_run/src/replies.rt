@@ -11,12 +11,12 @@ ghost use Rattle.auto_run.specs.RuledCores.{StandsForSite};
 use crate::auto_lines::auto_actor;
 use crate::end_lines::EndLines;
 use crate::ruled_sites::RuledSite;
-use any_site::AnySite;
 use merge_rules::auto_step;
 use rule_list::RuleList;
 use shell_run::{MAX_SHELL_LINE, ShellReplies};
 use site_run::{Gathered, Responder};
 use std::alloc::Global;
+use stored_site::StoredSite;
 use tardis_base::NoMemory;
 
 /// Answers a line `N auto` by the line of the auto step of the actor N, and each other line as a shell does. Its buffers are
@@ -37,7 +37,7 @@ impl AutoReplies {
 }
 
 /// Does the actor's auto step, and puts the line of how it ended behind what was gathered.
-fn put_step<A: AnySite>(
+fn put_step<A: StoredSite>(
     alloc: Global,
     core: &mut A,
     actor: u16,
@@ -58,7 +58,7 @@ fn put_step<A: AnySite>(
     }
 }
 
-impl<A: AnySite> Responder<RuledSite<A>> for AutoReplies {
+impl<A: StoredSite> Responder<RuledSite<A>> for AutoReplies {
     ghost use Rattle.auto_run.specs.Ruled.{Ruled, RuledStands, RuledMay};
 
     ghost State = { Ruled };

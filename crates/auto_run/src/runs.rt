@@ -13,9 +13,9 @@ ghost use Rattle.auto_run.specs.Outcomes.{AutoOutcome, AutoIsPrompt};
 
 use crate::replies::AutoReplies;
 use crate::ruled_sites::RuledSite;
-use any_site::AnySite;
 use site_run::answer_lines;
 use std::alloc::Global;
+use stored_site::StoredSite;
 use tardis_base::NoMemory;
 use tardis_io::{Duplex, Pair, Sink, Source, Status};
 
@@ -23,7 +23,7 @@ use tardis_io::{Duplex, Pair, Sink, Source, Status};
 /// `run_shell` does. All buffers are taken first; where they aren't had, the answer is `Status::NoMemory`, and nothing was read.
 ///
 /// Where no memory is found for an auto step, the site is as before, and the line says so; the run goes on.
-pub fn run_auto<A: AnySite, I: Source, O: Sink>(
+pub fn run_auto<A: StoredSite, I: Source, O: Sink>(
     alloc: Global,
     site: &mut RuledSite<A>,
     input: &mut I,
@@ -49,7 +49,7 @@ pub fn run_auto<A: AnySite, I: Source, O: Sink>(
 }
 
 /// The same over one device. Before each take all lines whose line feed was taken were answered, and all answers given.
-pub fn run_auto_device<A: AnySite, D: Duplex>(
+pub fn run_auto_device<A: StoredSite, D: Duplex>(
     alloc: Global,
     site: &mut RuledSite<A>,
     device: &mut D,

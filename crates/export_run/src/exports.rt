@@ -14,11 +14,12 @@ ghost use Rattle.branch_export.specs.declared.faults.ExportFault.{ExportFault};
 ghost use Rattle.export_run.specs.Exporting.{ExportOutcome, ExportEndsAs, IsExportEnd};
 
 use crate::silence::ask_silently;
-use any_site::{AnySite, SiteMachine};
+use any_site::SiteMachine;
 use branch_export::{ExportFault, export_store};
 use std::alloc::Global;
 use std::hash::RandomState;
 use std::mem;
+use stored_site::StoredSite;
 use tardis_base::{Limits, NoMemory, StateId};
 use tardis_io::{Sink, Source, Status};
 
@@ -26,7 +27,7 @@ use tardis_io::{Sink, Source, Status};
 ///
 /// All memory comes before the first byte. The cost grows with the number of all keys of the site, and with the bytes that are
 /// written.
-pub fn export_at<A: AnySite, O: Sink>(
+pub fn export_at<A: StoredSite, O: Sink>(
     alloc: Global,
     core: &A,
     state: StateId,
@@ -44,7 +45,7 @@ pub fn export_at<A: AnySite, O: Sink>(
 ///
 /// Nothing is written unless the input ended behind a whole frame, no frame found memory wanting, and the state is known and
 /// not collected by then. Where a frame found memory wanting, no more is read, and the steps made before stand.
-pub fn run_export<A: AnySite, I: Source, O: Sink>(
+pub fn run_export<A: StoredSite, I: Source, O: Sink>(
     alloc: Global,
     core: &mut SiteMachine<A>,
     state: StateId,
@@ -79,7 +80,7 @@ pub fn run_export<A: AnySite, I: Source, O: Sink>(
 /// The same of the site of this number, with these limits, which opens.
 ///
 /// Keys are found by hashing with this seed.
-pub fn export<A: AnySite, I: Source, O: Sink>(
+pub fn export<A: StoredSite, I: Source, O: Sink>(
     alloc: Global,
     keys: RandomState,
     limits: Limits,
@@ -115,7 +116,7 @@ pub fn export<A: AnySite, I: Source, O: Sink>(
 }
 
 /// The site that is the machine.
-fn site_of<A: AnySite>(machine: &SiteMachine<A>) -> &A
+fn site_of<A: StoredSite>(machine: &SiteMachine<A>) -> &A
     ensures { result.now ≡ machine.now }
 {
     &machine.site

@@ -7,7 +7,7 @@ use Rattle.tardis_base.specs.declared.replies.Reply.{Reply}
 use Rattle.tardis_base.specs.declared.faults.NoMemory.{NoMemory as OutOfMemory}
 use Rattle.plain_site.specs.Site.{Site}
 use Rattle.plain_site.specs.Step.{step}
-use Rattle.any_site.specs.Gives.{Gives}
+use Rattle.stored_site.specs.Gives.{Gives}
 use Rattle.load_run.specs.declared.counts.Counts.{Counts}
 use Rattle.load_run.specs.Plays.{Play, Act, counted, asks, asks_then, reply_to, stepped, draws, drawn, each_to, each_of}
 use Rattle.plain_dag.specs.Entries.{entry_of}

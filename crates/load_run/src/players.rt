@@ -4,20 +4,20 @@ ghost use Rattle.std.specs.Prelude.{◌≡◌, ◌+◌, ◌≤◌, is_some, IsTr
 ghost use Rattle.tardis_base.specs.declared.requests.Request.{Request};
 ghost use Rattle.wire_talk.specs.Valid.{is_request};
 ghost use Rattle.plain_dag.specs.Entries.{entry_of};
-ghost use Rattle.any_site.specs.Gives.{IsTold};
+ghost use Rattle.stored_site.specs.Gives.{IsTold};
 ghost use Rattle.load_run.specs.Plays.{Play, asks};
 ghost use Rattle.load_run.specs.Scripts.{opening_play};
 ghost use Rattle.load_run.specs.Lines.{known, kept};
 ghost use Rattle.load_run.specs.Held.{Plays, Asked, Does, Drew, Replied};
 
 use crate::counts::Counts;
-use any_site::AnySite;
 use command_words::Place;
 use rand_core::utils::NextWord;
 use rand_pcg::Lcg64Xsh32;
 use std::alloc::Global;
 use std::hash::RandomState;
 use std::marker::Model;
+use stored_site::StoredSite;
 use tardis_base::{NoMemory, Reply, Request};
 
 /// Where the site is: it is alone.
@@ -25,14 +25,14 @@ const ALONE: Place = Place { sites: 1, site: 1 };
 
 /// A site, the words to come, and what was counted.
 #[derive(Drop)]
-pub(crate) struct Player<A: AnySite> {
+pub(crate) struct Player<A: StoredSite> {
     alloc: Global,
     site: A,
     words: Lcg64Xsh32,
     counts: Counts,
 }
 
-impl<A: AnySite> Model for Player<A> {
+impl<A: StoredSite> Model for Player<A> {
     ghost use Rattle.std.specs.Prelude.{◌≤◌};
     ghost use Rattle.load_run.specs.Held.{Held};
 
@@ -43,7 +43,7 @@ impl<A: AnySite> Model for Player<A> {
     ghost invariant = { λ p. (p.counts.committed ≤ p.counts.events) × (p.counts.refused ≤ p.counts.events) };
 }
 
-impl<A: AnySite> Player<A> {
+impl<A: StoredSite> Player<A> {
     /// A site that opens, the words of this start, and nothing counted.
     pub(crate) fn new(alloc: Global, keys: RandomState, start: u32) -> Result<Player<A>, NoMemory>
         ensures stands { IfOk result (λ held. Plays A.stands held (opening_play start)) }

@@ -10,9 +10,9 @@ ghost use Rattle.load_run.specs.Ends.{WritesLine, IsLoadEnd};
 
 use crate::lines::line_of;
 use crate::players::Player;
-use any_site::AnySite;
 use std::alloc::Global;
 use std::hash::RandomState;
+use stored_site::StoredSite;
 use tardis_base::NoMemory;
 use tardis_io::{Sink, Status, WriteFault, write_all};
 
@@ -21,7 +21,7 @@ use tardis_io::{Sink, Status, WriteFault, write_all};
 ///
 /// The script is stated in `docs/COMMANDS.md`, 'A load'. The cost grows with the number of steps and with the states that the
 /// site keeps.
-pub fn run_load<A: AnySite, O: Sink>(
+pub fn run_load<A: StoredSite, O: Sink>(
     alloc: Global,
     keys: RandomState,
     start: u32,
@@ -44,7 +44,7 @@ pub fn run_load<A: AnySite, O: Sink>(
 }
 
 /// The line of the script's play.
-fn load<A: AnySite>(
+fn load<A: StoredSite>(
     alloc: Global,
     keys: RandomState,
     start: u32,
@@ -57,7 +57,7 @@ fn load<A: AnySite>(
 }
 
 /// Plays so many steps of the script from its start, and tells the line of it.
-fn played_line<A: AnySite>(
+fn played_line<A: StoredSite>(
     alloc: Global,
     player: &mut Player<A>,
     start: u32,

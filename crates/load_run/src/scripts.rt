@@ -4,15 +4,15 @@ ghost use Rattle.std.specs.Prelude.{◌≡◌, ◌+◌, ◌%◌, ◌≤◌, ◌<
 ghost use Rattle.tardis_base.specs.Valid.{is_key, is_value};
 ghost use Rattle.tardis_base.specs.declared.requests.Request.{Request};
 ghost use Rattle.tardis_base.specs.declared.requests.MergeOf.{MergeOf};
-ghost use Rattle.any_site.specs.Gives.{IsTold};
+ghost use Rattle.stored_site.specs.Gives.{IsTold};
 ghost use Rattle.load_run.specs.Plays.{asks, asks_then, draws, each_to, each_of};
 ghost use Rattle.load_run.specs.Scripts.{key, opens, commits_ser, begins, turn, aborts, settles, merges, upkeep, one_step, script};
 ghost use Rattle.load_run.specs.Held.{Does};
 
 use crate::players::Player;
-use any_site::AnySite;
 use itoa::Buffer;
 use std::alloc::Global;
+use stored_site::StoredSite;
 use tardis_base::{Begin, ByteList, EndFlags, Key, MergeOf, NoMemory, Reply, Request, Value};
 
 /// The session that merges.
@@ -55,7 +55,7 @@ fn copy_of(alloc: Global, key: &Key) -> Result<Key, NoMemory>
     }
 }
 
-impl<A: AnySite> Player<A> {
+impl<A: StoredSite> Player<A> {
     /// The session opens, and follows its commits.
     fn open(&mut self, session: u16) -> Result<(), NoMemory>
         requires { self.old.counts.events + 1 ≤ 18446744073709551615 }
@@ -135,7 +135,7 @@ impl<A: AnySite> Player<A> {
     }
 }
 
-impl<A: AnySite> Player<A> {
+impl<A: StoredSite> Player<A> {
     /// The merger writes the text of the number to each of these keys.
     fn put_each(&mut self, keys: &[Key], number: u32) -> Result<(), NoMemory>
         requires { self.old.counts.events + length keys.now ≤ 18446744073709551615 }

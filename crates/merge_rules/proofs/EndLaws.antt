@@ -14,7 +14,7 @@ use Rattle.plain_dag.specs.Growth.{growth_refusal}
 use Rattle.plain_site.specs.Site.{Site, own_count, next_record}
 use Rattle.plain_site.specs.Answers.{refuse, refuse_found, unless}
 use Rattle.plain_site.specs.Commits.{committed, commit_below}
-use Rattle.any_site.specs.Joins.{begin_refusal}
+use Rattle.stored_site.specs.Joins.{begin_refusal}
 use Rattle.rule_list.specs.declared.rules.PrefixRule.{PrefixRule}
 use Rattle.merge_rules.specs.declared.steps.AutoEnd.TheVariants.{Single, Unmerged, Wide, Merged}
 use Rattle.join_rules.specs.Valued.{value_of, unmerged, values}

@@ -26,7 +26,7 @@ use Rattle.plain_site.specs.Site.{Site, Txn}
 use Rattle.plain_site.specs.Sound.{IsSound}
 use Rattle.plain_site.specs.Answers.{refused, given}
 use Rattle.plain_site.specs.Commits.{commit_below}
-use Rattle.any_site.specs.Joins.{begin_refusal, merge_in_one, MayBeMerged}
+use Rattle.stored_site.specs.Joins.{begin_refusal, merge_in_one, MayBeMerged}
 use Rattle.rule_list.specs.declared.rules.PrefixRule.{PrefixRule}
 use Rattle.merge_rules.specs.declared.steps.AutoEnd.{AutoEnd}
 use Rattle.merge_rules.specs.declared.steps.AutoEnd.TheVariants.{Single, Refused, Wide, Unmerged}

@@ -12,7 +12,7 @@ use Rattle.plain_dag.specs.Forks.{leaves}
 use Rattle.plain_site.specs.Site.{Site}
 use Rattle.plain_site.specs.Answers.{Answer}
 use Rattle.plain_site.specs.Commits.{commit_below}
-use Rattle.any_site.specs.Joins.{begin_refusal}
+use Rattle.stored_site.specs.Joins.{begin_refusal}
 use Rattle.merge_rules.specs.declared.steps.AutoEnd.{AutoEnd}
 use Rattle.merge_rules.specs.declared.steps.AutoEnd.TheVariants.{Single, Refused, Wide, Unmerged, Merged}
 use Rattle.rule_list.specs.declared.rules.PrefixRule.{PrefixRule}

@@ -13,7 +13,7 @@ use Rattle.plain_dag.specs.Forks.{leaves}
 use Rattle.state_dag.specs.Stands.{Stands}
 use Rattle.state_dag.specs.Table.{Table, id_at}
 use Rattle.plain_site.specs.Site.{Site}
-use Rattle.any_site.specs.Joins.{MayBeMerged, merge_in_one}
+use Rattle.stored_site.specs.Joins.{MayBeMerged, merge_in_one}
 use Rattle.merge_rules.specs.declared.steps.AutoEnd.{AutoEnd}
 use Rattle.merge_rules.specs.Auto.{AutoAnswer, ended_as}
 

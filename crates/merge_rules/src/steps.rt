@@ -5,15 +5,15 @@
 ghost use Rattle.std.specs.Prelude.{◌≡◌, IsTrue, IfSome};
 ghost use Rattle.state_dag.specs.Table.{is_slot};
 ghost use Rattle.plain_site.specs.Site.{Site};
-ghost use Rattle.any_site.specs.Joins.{IsMergeEnd};
+ghost use Rattle.stored_site.specs.Joins.{IsMergeEnd};
 ghost use Rattle.merge_rules.specs.Auto.{auto_step, end_of};
 ghost use Rattle.merge_rules.specs.Steps.{Ends, FirstTwo, MayJoin, JoinsAs};
 
-use any_site::AnySite;
 use join_rules::{Settled, settle};
 use rule_list::RuleList;
 use state_dag::StateDag;
 use std::alloc::Global;
+use stored_site::StoredSite;
 use tardis_base::{Key, NoMemory, Refusal, Reply, Slot, StateId, WriteSet};
 
 /// How an auto step ended.
@@ -34,8 +34,8 @@ pub enum AutoEnd {
 /// Merges the two leaves that arrived first, as the actor's session: each of their conflict keys gets the value that its
 /// rule gives, and no other key is written. Unless that ends as `Merged`, and with no memory, the site is as before.
 ///
-/// The cost is that of `settle`, and then that of `AnySite::commit_merge`; it doesn't grow with the number of leaves.
-pub fn auto_step<A: AnySite>(
+/// The cost is that of `settle`, and then that of `StoredSite::commit_merge`; it doesn't grow with the number of leaves.
+pub fn auto_step<A: StoredSite>(
     alloc: Global,
     core: &mut A,
     actor: u16,
@@ -77,7 +77,7 @@ fn first_two(dag: &StateDag) -> Option<(Slot, Slot)>
 }
 
 /// Commits a merge of the states of these two slots with these writes, in one step.
-fn join<A: AnySite>(
+fn join<A: StoredSite>(
     core: &mut A,
     actor: u16,
     a: Slot,

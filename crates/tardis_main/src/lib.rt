@@ -16,7 +16,6 @@ mod laws;
 mod plans;
 mod programs;
 
-use any_site::AnySite;
 use auto_run::auto;
 use branch_export::run_import;
 use command_words::{Command, WordsFault, commands_are_at_a_site, read_words};
@@ -33,6 +32,7 @@ use std::alloc::Global;
 use std::hash::RandomState;
 use std::sync::Wait;
 use std::thread::Threads;
+use stored_site::StoredSite;
 use tardis_io::{Dial, Gate, Sink, Source, Status};
 use world_core::run_world;
 
@@ -42,7 +42,7 @@ use world_core::run_world;
 /// Keys are found by hashing with this seed. Only `serve` starts threads and waits, and only it uses the gate and the dial. Only
 /// `durable` uses the store.
 pub fn tardis<
-    A: AnySite + Send,
+    A: StoredSite + Send,
     I: Source,
     O: Sink,
     G: Gate,

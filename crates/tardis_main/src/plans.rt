@@ -6,7 +6,6 @@ ghost use Rattle.command_words.specs.Places.{IsPlace, program_limits};
 ghost use Rattle.site_commands.specs.Ends.{CausedBy, ServerEnds};
 ghost use Rattle.tardis_main.specs.Program.{site_at, work_of};
 
-use any_site::AnySite;
 use command_words::ServePlan;
 use serve_run::ServeOptions;
 use site_commands::serve;
@@ -14,11 +13,12 @@ use std::alloc::Global;
 use std::hash::RandomState;
 use std::sync::Wait;
 use std::thread::Threads;
+use stored_site::StoredSite;
 use tardis_io::{Dial, Gate, Sink, Status};
 
 /// Serves links and makes rounds as a plan says.
 pub(crate) fn serve_plan<
-    A: AnySite + Send,
+    A: StoredSite + Send,
     O: Sink,
     G: Gate,
     D: Dial + Send,

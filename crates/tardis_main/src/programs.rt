@@ -15,7 +15,6 @@ ghost use Rattle.tardis_main.specs.Program.{Audits, Autos, Durables, Exports, Im
 
 use crate::helps::{USAGE, VERSION, help_text};
 use crate::tardis;
-use any_site::AnySite;
 use command_words::{Help, commands_are_at_a_site, help_of, words_behind_name};
 use disk_store::Store;
 use std::alloc::Global;
@@ -23,13 +22,14 @@ use std::env::Args;
 use std::hash::RandomState;
 use std::sync::Wait;
 use std::thread::Threads;
+use stored_site::StoredSite;
 use tardis_base::NoMemory;
 use tardis_io::{Dial, Gate, Sink, Source, Status, WriteFault, write_all};
 
 /// Carries out the command that a program's arguments name, by sites of this kind. The first argument is the program's name: it tells of itself
 /// for `--help` and `--version`, and is `tardis` for other words.
 pub fn carry_out<
-    A: AnySite + Send,
+    A: StoredSite + Send,
     I: Source,
     O: Sink,
     G: Gate,
@@ -108,7 +108,7 @@ pub fn carry_out<
 
 /// Carries out the command that the words name.
 fn command<
-    A: AnySite + Send,
+    A: StoredSite + Send,
     I: Source,
     O: Sink,
     G: Gate,

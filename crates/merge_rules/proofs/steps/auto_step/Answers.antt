@@ -11,9 +11,9 @@ use Rattle.merge_rules.proofs.steps.auto_step.Goals as goal
 pub returns-in_default-clause-plain : goal.returns-in_default-clause-plain
 returns-in_default-clause-plain g c = λ site stands.
     let core = c.args.core.now in
-    let store = g.A.AnySite.kept core in
+    let store = g.A.StoredSite.kept core in
     ended-so (g.A.AnySite.stands core) site Single (auto_step site c.args.actor c.args.rules.now)
-    (none-at store site (g.met.A.AnySite.keeps core site stands) c.dag.result.now (c.dag.ensures ∙ ap (λ v. v.table) c.store.ensures.is) c.in_default.ensures.first c.args.actor c.args.rules.now)
+    (none-at store site (g.met.A.StoredSite.keeps core site stands) c.dag.result.now (c.dag.ensures ∙ ap (λ v. v.table) c.store.ensures.is) c.in_default.ensures.first c.args.actor c.args.rules.now)
     stands
 
 pub returns-in_default-clause-opening : goal.returns-in_default-clause-opening
@@ -22,9 +22,9 @@ returns-in_default-clause-opening g c = refl
 pub returns-in-Some-begin_refusal-clause-plain : goal.returns-in-Some-begin_refusal-clause-plain
 returns-in-Some-begin_refusal-clause-plain g c = λ site stands.
     let core = c.args.core.now in
-    let store = g.A.AnySite.kept core in
+    let store = g.A.StoredSite.kept core in
     let sound = g.met.A.AnySite.sound core site stands in
-    let keeps = g.met.A.AnySite.keeps core site stands in
+    let keeps = g.met.A.StoredSite.keeps core site stands in
     let slots : Slot × Slot = (c.in-Some.a, c.in-Some.b) in
     let at = leaves-at store site sound keeps slots c.dag.result.now (c.dag.ensures ∙ ap (λ v. v.table) c.store.ensures.is) c.in-Some.ensures.first in
     ended-so (g.A.AnySite.stands core) site (Refused c.in-Some-begin_refusal.refusal) (auto_step site c.args.actor c.args.rules.now)
@@ -60,9 +60,9 @@ join-requires-clause-b g c = subst (λ t. IsTrue (is_slot t c.in-Some.b)) (c.dag
 pub join-requires-clause-merges : goal.join-requires-clause-merges
 join-requires-clause-merges g c = λ site stands x y ea eb valid.
     let core = c.args.core.now in
-    let store = g.A.AnySite.kept core in
+    let store = g.A.StoredSite.kept core in
     let sound = g.met.A.AnySite.sound core site stands in
-    let keeps = g.met.A.AnySite.keeps core site stands in
+    let keeps = g.met.A.StoredSite.keeps core site stands in
     let slots : Slot × Slot = (c.in-Some.a, c.in-Some.b) in
     let at = leaves-at store site sound keeps slots c.dag.result.now (c.dag.ensures ∙ ap (λ v. v.table) c.store.ensures.is) c.in-Some.ensures.first in
     let settled = settled-at store site sound keeps slots at c.store-2.result.now c.store-2.ensures.is c.args.rules.now c.in_ok-keys.field-0 c.in_ok-keys.ensures in
@@ -72,9 +72,9 @@ join-requires-clause-merges g c = λ site stands x y ea eb valid.
 pub returns-in-Wide-clause-plain : goal.returns-in-Wide-clause-plain
 returns-in-Wide-clause-plain g c = λ site stands.
     let core = c.args.core.now in
-    let store = g.A.AnySite.kept core in
+    let store = g.A.StoredSite.kept core in
     let sound = g.met.A.AnySite.sound core site stands in
-    let keeps = g.met.A.AnySite.keeps core site stands in
+    let keeps = g.met.A.StoredSite.keeps core site stands in
     let slots : Slot × Slot = (c.in-Some.a, c.in-Some.b) in
     let at = leaves-at store site sound keeps slots c.dag.result.now (c.dag.ensures ∙ ap (λ v. v.table) c.store.ensures.is) c.in-Some.ensures.first in
     let settled = settled-at store site sound keeps slots at c.store-2.result.now c.store-2.ensures.is c.args.rules.now c.in_ok-keys.field-0 c.in_ok-keys.ensures in
@@ -86,9 +86,9 @@ returns-in-Wide-clause-plain g c = λ site stands.
 pub returns-in-Unmerged-clause-plain : goal.returns-in-Unmerged-clause-plain
 returns-in-Unmerged-clause-plain g c = λ site stands.
     let core = c.args.core.now in
-    let store = g.A.AnySite.kept core in
+    let store = g.A.StoredSite.kept core in
     let sound = g.met.A.AnySite.sound core site stands in
-    let keeps = g.met.A.AnySite.keeps core site stands in
+    let keeps = g.met.A.StoredSite.keeps core site stands in
     let slots : Slot × Slot = (c.in-Some.a, c.in-Some.b) in
     let at = leaves-at store site sound keeps slots c.dag.result.now (c.dag.ensures ∙ ap (λ v. v.table) c.store.ensures.is) c.in-Some.ensures.first in
     let settled = settled-at store site sound keeps slots at c.store-2.result.now c.store-2.ensures.is c.args.rules.now c.in_ok-keys.field-0 c.in_ok-keys.ensures in
@@ -100,9 +100,9 @@ returns-in-Unmerged-clause-plain g c = λ site stands.
 pub returns-in-Values-clause-plain : goal.returns-in-Values-clause-plain
 returns-in-Values-clause-plain g c = λ site stands.
     let core = c.args.core.now in
-    let store = g.A.AnySite.kept core in
+    let store = g.A.StoredSite.kept core in
     let sound = g.met.A.AnySite.sound core site stands in
-    let keeps = g.met.A.AnySite.keeps core site stands in
+    let keeps = g.met.A.StoredSite.keeps core site stands in
     let slots : Slot × Slot = (c.in-Some.a, c.in-Some.b) in
     let at = leaves-at store site sound keeps slots c.dag.result.now (c.dag.ensures ∙ ap (λ v. v.table) c.store.ensures.is) c.in-Some.ensures.first in
     let settled = settled-at store site sound keeps slots at c.store-2.result.now c.store-2.ensures.is c.args.rules.now c.in_ok-keys.field-0 c.in_ok-keys.ensures in

@@ -1,13 +1,13 @@
 use Rattle.std.proofs.Common.{[], ◌∷◌, ap₂}
 use Rattle.state_dag.specs.Table.{id_at}
-use Rattle.any_site.specs.Joins.{merge_in_one, MayBeMerged}
+use Rattle.stored_site.specs.Joins.{merge_in_one, MayBeMerged}
 use Rattle.merge_rules.specs.Auto.{ended_as}
 use Rattle.merge_rules.proofs.StepLaws.{ended-short, two-named}
 use Rattle.merge_rules.proofs.steps.join.Goals as goal
 
 pub commit_merge-requires-clause-merges : goal.commit_merge-requires-clause-merges
 commit_merge-requires-clause-merges g c = λ site stands xs named.
-    let table = (g.A.AnySite.kept c.args.core.now).table in
+    let table = (g.A.StoredSite.kept c.args.core.now).table in
     two-named (id_at table c.args.a) (id_at table c.args.b) xs named (λ zs. MayBeMerged site zs c.args.writes)
     (λ x y ea eb. c.requires.merges site stands x y ea eb c.as_slice.ensures.valid)
 
