@@ -7,7 +7,8 @@ use Rattle.auto_run.proofs.replies.put_step.Goals as goal
 pub put-requires-clause-told : goal.put-requires-clause-told
 put-requires-clause-told g c =
     let before = c.requires.stands in
-    subst CanBeTold (sym (c.in-Ok.ensures.plain before.site before.there).1) (step-told before.site c.args.actor c.args.rules.now (g.met.A.AnySite.sound c.args.core.now before.site before.there))
+    subst CanBeTold (sym (c.in-Ok.ensures.plain before.site before.there).1)
+    (step-told before.site c.args.actor c.args.rules.now (g.met.A.AnySite.sound c.args.core.now before.site before.there))
 
 pub returns-in-Ok-clause-answer : goal.returns-in-Ok-clause-answer
 returns-in-Ok-clause-answer g c = λ site f.

@@ -13,7 +13,8 @@ returns-in_default-clause-plain g c = λ site stands.
     let core = c.args.core.now in
     let store = g.A.StoredSite.kept core in
     ended-so (g.A.AnySite.stands core) site Single (auto_step site c.args.actor c.args.rules.now)
-    (none-at store site (g.met.A.StoredSite.keeps core site stands) c.dag.result.now (c.dag.ensures ∙ ap (λ v. v.table) c.store.ensures.is) c.in_default.ensures.first c.args.actor c.args.rules.now)
+    (none-at store site (g.met.A.StoredSite.keeps core site stands) c.dag.result.now (c.dag.ensures ∙ ap (λ v. v.table) c.store.ensures.is)
+    c.in_default.ensures.first c.args.actor c.args.rules.now)
     stands
 
 pub returns-in_default-clause-opening : goal.returns-in_default-clause-opening
