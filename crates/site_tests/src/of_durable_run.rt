@@ -95,7 +95,7 @@ fn run_over<R: RandomSource + Abort, K: Disk, I: Source, O: Sink>(
     requires limits { IsTrue (are_limits limits) }
     requires sites { 1 ≤ limits.sites }
 {
-    run_site_on(alloc, keys(rt), limits, 1, disk, source, output)
+    run_site_on::<SiteCore, _, _, _>(alloc, keys(rt), limits, 1, disk, source, output)
 }
 
 /// Runs the site over a disk and the requests from this one on, in pieces of so many bytes.
