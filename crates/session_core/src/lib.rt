@@ -41,11 +41,20 @@ use tardis_base::{Limits, NoMemory, StateList};
 use transactions::TxnBook;
 
 /// One site: its history, its sessions, its open transactions, and what waits.
-#[derive(Drop)]
+///
+/// How it is let go is written here, so that the crates above needn't prove it of each of its parts.
 pub struct SiteCore {
     parts: Parts,
     /// What a reply told last of a commit's parents. The next one is told in its memory.
     told: StateList,
+}
+
+impl Drop for SiteCore {
+    fn drop(self) {
+        let SiteCore { parts, told } = self;
+        drop(parts);
+        drop(told);
+    }
 }
 
 impl Model for SiteCore {
