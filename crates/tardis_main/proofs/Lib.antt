@@ -4,3 +4,4 @@ mod WorldRuns
 mod Unserved
 mod Unexported
 mod Helping
+mod Others
