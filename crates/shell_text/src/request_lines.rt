@@ -2,7 +2,7 @@
 //!
 //! How lines are written is stated in `docs/FORMATS.md`. The cost grows with the number of bytes.
 
-ghost use Rattle.std.specs.Prelude.{◌≡◌, ◌+◌, ◌≤◌, [], ◌∷◌, ◌++◌, codes, is_some, length};
+ghost use Rattle.std.specs.Prelude.{◌≡◌, ◌+◌, ◌<◌, ◌≤◌, [], ◌∷◌, ◌++◌, codes, is_some, length};
 ghost use Rattle.wire_item.specs.Readings.{item_of};
 ghost use Rattle.shell_text.specs.Spelled.{malformed_line, request_line_of};
 ghost use Rattle.shell_text.specs.RequestLines.{request_words};
@@ -11,7 +11,7 @@ ghost use Rattle.text_words.specs.Puts.{putting, puts, spaced};
 ghost use Rattle.text_words.specs.Words.{line};
 ghost use Rattle.wire_item.specs.Fronts.{front_of_code};
 ghost use Rattle.wire_talk.specs.RequestReadings.{request_rows};
-ghost use Rattle.wire_talk.specs.declared.request_codes.TheConstants.{DELIVER};
+ghost use Rattle.wire_talk.specs.declared.request_codes.TheConstants.{CEILING, DELIVER};
 
 use crate::field_words::{put_id, put_key, put_key_and_id, put_key_and_value, put_u16};
 use crate::passing::pass_item;
@@ -93,6 +93,18 @@ fn put_coded_request(code: u8, unread: &mut Unread, out: &mut LineBuf)
     requires { code ≡ DELIVER → ⊥ }
     ensures { putting unread.new out.new ≡ puts (front_of_code code request_rows) (λ r. spaced (line (request_words r))) (putting unread.old out.old) }
 {
+    if code < request_codes::CEILING {
+        put_low_request(code, unread, out);
+    } else {
+        put_high_request(code, unread, out);
+    }
+}
+
+/// The request of a code below that of a ceiling.
+fn put_low_request(code: u8, unread: &mut Unread, out: &mut LineBuf)
+    requires { code < CEILING }
+    ensures { putting unread.new out.new ≡ puts (front_of_code code request_rows) (λ r. spaced (line (request_words r))) (putting unread.old out.old) }
+{
     match code {
         request_codes::OPEN => put_open(unread, out),
         request_codes::BEGIN => put_begin(unread, out),
@@ -105,6 +117,17 @@ fn put_coded_request(code: u8, unread: &mut Unread, out: &mut LineBuf)
         request_codes::FORK_POINTS => unread.say(b" forks", out),
         request_codes::CONFLICTS => put_conflicts(unread, out),
         request_codes::GET_FOR => put_key_and_id(b" getfor", unread, out),
+        _ => unread.lose(),
+    }
+}
+
+/// The request of a code from that of a ceiling on, which isn't that of an item.
+fn put_high_request(code: u8, unread: &mut Unread, out: &mut LineBuf)
+    requires from { CEILING ≤ code }
+    requires other { code ≡ DELIVER → ⊥ }
+    ensures { putting unread.new out.new ≡ puts (front_of_code code request_rows) (λ r. spaced (line (request_words r))) (putting unread.old out.old) }
+{
+    match code {
         request_codes::CEILING => put_id(b" ceiling", unread, out),
         request_codes::RAISE => put_id(b" raise", unread, out),
         request_codes::RAISE_AUTO => unread.say(b" raise auto", out),
