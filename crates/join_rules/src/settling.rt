@@ -104,9 +104,10 @@ fn values_of(
 {
     let mut writes = WriteSet::new(alloc);
     for key in keys {
+        let own = key.copy()?;
         match value_of(alloc, store, rules, parting, a, b, key)? {
-            Some(write) => writes.insert(key.copy()?, write)?,
-            None => return Ok(Settled::Unmerged(key.copy()?)),
+            Some(write) => writes.insert(own, write)?,
+            None => return Ok(Settled::Unmerged(own)),
         }
     }
     Ok(Settled::Values(writes))

@@ -359,8 +359,9 @@ impl RecordStore {
             → OnOk result (HasReads (read_write rs x) (λ k. met k || is_key_among k keys.now) writes.new) }
     {
         for key in keys {
+            let own = key.copy()?;
             if let Some(write) = written(self.read_at(slot, key))? {
-                writes.insert(key.copy()?, write)?;
+                writes.insert(own, write)?;
             }
         }
         Ok(())

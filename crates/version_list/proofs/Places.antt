@@ -1,8 +1,8 @@
 -- A key's list, reached by the place where the key stands.
-use Rattle.std.proofs.Common.{◌≡◌, ℕ, ◌≤◌, ◌<◌, true, false, nat_lt, List, [], ◌∷◌, slice_get, get_or, position, Option, None, Some, is_some, IfSome, bytes_eq, refl, sym, ◌∙◌, ap, subst, inl, inr, arith}
+use Rattle.std.proofs.Common.{◌≡◌, ℕ, ◌≤◌, ◌<◌, true, false, cond, nat_lt, List, [], ◌∷◌, slice_get, get_or, position, Option, None, Some, is_some, IfSome, bytes_eq, refl, sym, ◌∙◌, ap, subst, inl, inr, arith}
 use Rattle.std.specs.Map.{lookup}
 use Rattle.std.specs.Option.{option_map, option_map_or}
-use Rattle.std.proofs.lemmas.Bool.{cases_Bool, both_ways, lt-ltb, ltb-true}
+use Rattle.std.proofs.lemmas.Bool.{cases_Bool, both_ways, cond-true, cond-false, lt-ltb, ltb-true}
 use Rattle.std.proofs.lemmas.Cmp.{nat_list_eq_equiv}
 use Rattle.std.proofs.lemmas.List.Folds.{list_any_at}
 use Rattle.std.proofs.lemmas.List.Quantifiers.{position-Some}
@@ -103,3 +103,34 @@ module _ {S : Type 0} (m : IndexMap (List ℕ) Listed S) (old : Lists) (i : ℕ)
 
   pub room-at : has_room_in old k ≡ true → 0 < e.1.room
   room-at room = ltb-true 0 e.1.room (sym (ap (λ o. option_map_or (λ (l : Listed). nat_lt 0 l.room) o false) listed-at) ∙ room)
+
+-- one key more that wasn't listed, with no versions and some room
+module _ (old new : Lists) (k : List ℕ) (l : Listed) (none : is_some (listed_in old k) ≡ false) (empty : l.versions ≡ []) (room : 0 < l.room)
+    (put : (q : List ℕ) → listed_in new q ≡ cond (bytes_eq k q) (Some l) (listed_in old q)) where
+  listed-here : (q : List ℕ) → bytes_eq k q ≡ true → (listed_in new q ≡ Some l) × (is_some (listed_in old q) ≡ false)
+  listed-here q t = (put q ∙ cond-true (bytes_eq k q) (Some l) (listed_in old q) t, subst (λ j. is_some (listed_in old j) ≡ false) ((bytes_eq-Decides k q).0 t) none)
+
+  listed-else : (q : List ℕ) → bytes_eq k q ≡ false → listed_in new q ≡ listed_in old q
+  listed-else q f = put q ∙ cond-false (bytes_eq k q) (Some l) (listed_in old q) f
+
+  pub begun-room : has_room_in new k ≡ true
+  begun-room =
+      ap (λ o. option_map_or (λ (l : Listed). nat_lt 0 l.room) o false) (listed-here k ((bytes_eq-Decides k k).1 refl)).0 ∙ lt-ltb 0 l.room room
+
+  pub begun-same : (q : List ℕ) → versions_in new q ≡ versions_in old q
+  begun-same q = elim (cases_Bool (bytes_eq k q)) [
+    | inl t ↦
+        ap (λ o. option_map_or (λ (l : Listed). l.versions) o []) (listed-here q t).0 ∙ (empty
+        ∙ sym (nothing (listed_in old q) (listed-here q t).1))
+    | inr f ↦ ap (λ o. option_map_or (λ (l : Listed). l.versions) o []) (listed-else q f)
+  ]
+    where
+      nothing : (o : Option Listed) → is_some o ≡ false → option_map_or (λ (l : Listed). l.versions) o [] ≡ []
+      nothing None e = refl
+      nothing (Some m) e = absurd (both_ways false refl (sym e))
+
+  pub begun-kept : (q : List ℕ) → has_room_in old q ≡ true → has_room_in new q ≡ true
+  begun-kept q had = elim (cases_Bool (bytes_eq k q)) [
+    | inl t ↦ ap (λ o. option_map_or (λ (l : Listed). nat_lt 0 l.room) o false) (listed-here q t).0 ∙ lt-ltb 0 l.room room
+    | inr f ↦ ap (λ o. option_map_or (λ (l : Listed). nat_lt 0 l.room) o false) (listed-else q f) ∙ had
+  ]

@@ -23,14 +23,14 @@ returns-in-None c = λ rs ks stands x y ea eb parts ascend.
     so-far-fails (value_of c.args.rules.now rs x y) c.args.keys.now c.loop-key.key-index c.key-item.result c.loop-key-test.true c.key-item.is
     c.loop-key.writes
     (c.loop-key.invariant rs ks stands x y ea eb parts ascend) (sym (c.in_ok-write.ensures rs ks stands x y ea eb parts) ∙ c.in-None.is)
-    ∙ ap (λ k. Some k) (sym c.in_ok-copy-in-None.ensures)
+    ∙ ap (λ k. Some k) (sym c.in_ok-own.ensures)
 
 pub loop-key-preserved : goal.loop-key-preserved
 loop-key-preserved c = λ rs ks stands x y ea eb parts ascend.
     so-far-next (value_of c.args.rules.now rs x y) c.args.keys.now c.loop-key.key-index c.key-item.result c.loop-key-test.true c.key-item.is
     c.loop-key.writes c.insert.new.self c.in-Some.write
     (c.loop-key.invariant rs ks stands x y ea eb parts ascend) (sym (c.in_ok-write.ensures rs ks stands x y ea eb parts) ∙ c.in-Some.is) ascend
-    (c.in_ok-insert-in-Some.ensures.added ∙ ap (λ z. with_write z c.in-Some.write c.loop-key.writes) c.in_ok-copy-in-Some.ensures)
+    (c.in_ok-insert-in-Some.ensures.added ∙ ap (λ z. with_write z c.in-Some.write c.loop-key.writes) c.in_ok-own.ensures)
 
 pub returns : goal.returns
 returns c = λ rs ks stands x y ea eb parts ascend.

@@ -4,7 +4,7 @@ use Rattle.tardis_base.proofs.WriteSets.{ascending-with_write}
 use Rattle.record_store.specs.Answers.{HasReads, read_write, write_found}
 use Rattle.record_store.proofs.Records.{key-written, key-absent, one-more}
 use Rattle.record_store.proofs.RecordStore.add_reads.Goals as goal
-use Rattle.record_store.proofs.RecordStore.add_reads.Goals.{in-Some+in_ok-copy+in_ok-insert, in_default}
+use Rattle.record_store.proofs.RecordStore.add_reads.Goals.{in-Some+in_ok-insert, in_default}
 
 pub loop-key-preserved : goal.loop-key-preserved
 loop-key-preserved c =
@@ -12,10 +12,10 @@ loop-key-preserved c =
     let i = c.loop-key.key-index in
     let key = c.key-item.result in
     let ws = c.loop-key.writes in
-    elim c.match-branch-2.branch [
-      | in-Some+in_ok-copy+in_ok-insert w ↦
-          let new_is : c.match-branch-2.writes ≡ with_write key w.in-Some.write ws = w.writes-is
-          ∙ (w.in_ok-insert.ensures.added ∙ ap (λ (k : List ℕ). with_write k w.in-Some.write ws) w.in_ok-copy.ensures) in
+    elim c.match-branch-3.branch [
+      | in-Some+in_ok-insert w ↦
+          let new_is : c.match-branch-3.writes ≡ with_write key w.in-Some.write ws = w.writes-is
+          ∙ (w.in_ok-insert.ensures.added ∙ ap (λ (k : List ℕ). with_write k w.in-Some.write ws) c.in_ok-own.ensures) in
           record {
             ascending = λ up. subst (λ (vs : List KeyWrite). IsTrue (are_ascending_keys (keys_of vs))) (sym new_is)
                 (ascending-with_write key w.in-Some.write ws (c.loop-key.invariant.ascending up));

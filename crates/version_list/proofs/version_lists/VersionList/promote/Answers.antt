@@ -11,7 +11,7 @@ use Rattle.version_list.proofs.Handed.{none-left}
 use Rattle.version_list.proofs.Promotes.{in_order-promoted}
 use Rattle.version_list.proofs.Joins.{exchanged, exchanged-joined}
 use Rattle.version_list.proofs.Moves.{apart, turned}
-use Rattle.version_list.proofs.Seated.{listed-is, versions-are, noted-is, ordered-by_seats, joined-by_seats}
+use Rattle.version_list.proofs.Seated.{listed-is, versions-are, noted-is, ordered-by_seats, joined-by_seats, first-kept, second-kept, apart-by_seats, next-by_seats}
 use Rattle.version_list.proofs.Seated.{seen-keys, seen-versions, seen-noted, seen-exchanged, paired-exchanged, chunks-noted, noted-other}
 use Rattle.version_list.proofs.version_lists.VersionList.promote.Goals as goal
 
@@ -153,3 +153,69 @@ returns-else-next-clause-noted g c = λ s.
     seen-noted t paired s c.join-else-next.new.notes
     ∙ c.join-else-next.ensures.there (seat_of t s)
     ∙ sym (noted-is c.args.self.now t a.lists a.notes _ c.self.view_is paired s)
+
+pub invariant_of-self : goal.invariant_of-self
+invariant_of-self g c = (
+  c.self.invariant.0,
+  c.join.ensures.noted,
+  paired-exchanged c.self.inside.seats c.exchange.new.self c.args.from c.args.to c.self.invariant.2 c.exchange.ensures.seats c.exchange.ensures.slots,
+)
+
+pub invariant_of-self-else-next : goal.invariant_of-self-else-next
+invariant_of-self-else-next g c = (c.self.invariant.0, c.join-else-next.ensures.noted, c.self.invariant.2)
+
+pub join-requires-clause-from : goal.join-requires-clause-from
+join-requires-clause-from g c =
+    let kept = g.A.Above.is_kept c.args.dag.now in
+    let arrival = g.A.Above.arrival_of c.args.dag.now in
+    first-kept c.self.inside.seats c.self.invariant.2 kept arrival c.args.to c.args.from c.seat-second.result c.seat-first.result c.seat-second.ensures c.seat-first.ensures
+    c.requires.to
+
+pub join-requires-clause-to : goal.join-requires-clause-to
+join-requires-clause-to g c =
+    let kept = g.A.Above.is_kept c.args.dag.now in
+    let arrival = g.A.Above.arrival_of c.args.dag.now in
+    second-kept c.self.inside.seats c.self.invariant.2 kept arrival c.args.to c.args.from c.seat-second.result c.seat-first.result c.seat-second.ensures c.seat-first.ensures
+    c.requires.from
+
+pub join-requires-clause-apart : goal.join-requires-clause-apart
+join-requires-clause-apart g c =
+    let kept = g.A.Above.is_kept c.args.dag.now in
+    let arrival = g.A.Above.arrival_of c.args.dag.now in
+    apart-by_seats c.self.inside.seats c.self.invariant.2 kept arrival c.args.to c.args.from c.seat-second.result c.seat-first.result c.seat-second.ensures c.seat-first.ensures
+    (λ e. let before = c.requires.before in omega (arith, e, before))
+
+pub join-requires-clause-next : goal.join-requires-clause-next
+join-requires-clause-next g c =
+    let kept = g.A.Above.is_kept c.args.dag.now in
+    let arrival = g.A.Above.arrival_of c.args.dag.now in
+    next-by_seats c.self.inside.seats c.self.invariant.2 kept arrival c.args.to c.args.from c.seat-second.result c.seat-first.result c.seat-second.ensures c.seat-first.ensures
+    (λ _ s. c.requires.next c.if-next.true s)
+
+pub join-requires-else-next-clause-from : goal.join-requires-else-next-clause-from
+join-requires-else-next-clause-from g c =
+    let kept = g.A.Above.is_kept c.args.dag.now in
+    let arrival = g.A.Above.arrival_of c.args.dag.now in
+    first-kept c.self.inside.seats c.self.invariant.2 kept arrival c.args.from c.args.to c.seat-first.result c.seat-second.result c.seat-first.ensures c.seat-second.ensures
+    c.requires.from
+
+pub join-requires-else-next-clause-to : goal.join-requires-else-next-clause-to
+join-requires-else-next-clause-to g c =
+    let kept = g.A.Above.is_kept c.args.dag.now in
+    let arrival = g.A.Above.arrival_of c.args.dag.now in
+    second-kept c.self.inside.seats c.self.invariant.2 kept arrival c.args.from c.args.to c.seat-first.result c.seat-second.result c.seat-first.ensures c.seat-second.ensures
+    c.requires.to
+
+pub join-requires-else-next-clause-apart : goal.join-requires-else-next-clause-apart
+join-requires-else-next-clause-apart g c =
+    let kept = g.A.Above.is_kept c.args.dag.now in
+    let arrival = g.A.Above.arrival_of c.args.dag.now in
+    apart-by_seats c.self.inside.seats c.self.invariant.2 kept arrival c.args.from c.args.to c.seat-first.result c.seat-second.result c.seat-first.ensures c.seat-second.ensures
+    (λ e. let before = c.requires.before in omega (arith, e, before))
+
+pub join-requires-else-next-clause-next : goal.join-requires-else-next-clause-next
+join-requires-else-next-clause-next g c =
+    let kept = g.A.Above.is_kept c.args.dag.now in
+    let arrival = g.A.Above.arrival_of c.args.dag.now in
+    next-by_seats c.self.inside.seats c.self.invariant.2 kept arrival c.args.from c.args.to c.seat-first.result c.seat-second.result c.seat-first.ensures c.seat-second.ensures
+    (λ newer. let before = c.requires.before in absurd (omega (arith, newer, before)))
