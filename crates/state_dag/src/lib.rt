@@ -97,15 +97,15 @@ impl StateDag {
         ensures limits { IfOk result (λ table. table.limits ≡ limits.now) }
     {
         let counts = vec![in alloc; 0u32; limits.sites as usize]?;
-        let mut nodes = Vec::new(alloc);
-        nodes.push(root_node(alloc))?;
-        let order = SlotOrder::new(alloc)?;
-        let mut leaves = Vec::new(alloc);
-        leaves.push(Slot(0))?;
-        let mut slots = IdSlots::new(alloc);
-        slots.put(StateId::ROOT, Slot(0))?;
         let mut since = Vec::new(alloc);
         since.push(0)?;
+        let mut leaves = Vec::new(alloc);
+        leaves.push(Slot(0))?;
+        let order = SlotOrder::new(alloc)?;
+        let mut slots = IdSlots::new(alloc);
+        slots.put(StateId::ROOT, Slot(0))?;
+        let mut nodes = Vec::new(alloc);
+        nodes.push(root_node(alloc))?;
         Ok(StateDag {
             limits: *limits,
             counts,
