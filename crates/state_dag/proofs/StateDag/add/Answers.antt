@@ -131,169 +131,70 @@ on_err : (r : Result Slot AddFault) (P : Type 0) → P → OnErr r P
 on_err (Ok s) P p = tt
 on_err (Err f) P p = p
 
+-- what the memory is where there was no room for the state
+abbrev roomless : goal.After-drop-node-in_err-make_state_room-3 → Inside
+roomless c = record c.self.inside {
+  nodes = c.make_state_room.new.nodes;
+  order = c.make_state_room.new.order;
+  leaves = c.make_state_room.new.leaves;
+  since = c.make_state_room.new.since;
+}
+
+roomless-same : (c : goal.After-drop-node-in_err-make_state_room-3) → seen (roomless c) ≡ c.args.self.now
+roomless-same c =
+    view-same c.self.inside (roomless c) c.self.invariant refl refl refl c.make_state_room.ensures.leaves c.make_state_room.ensures.order refl
+    c.make_state_room.ensures.used c.make_state_room.ensures.same (λ x. refl) c.make_state_room.ensures.since c.args.self.now c.self.view_is
+
 pub returns-in_err-make_state_room-clause-same : goal.returns-in_err-make_state_room-clause-same
-returns-in_err-make_state_room-clause-same c =
-    let a = c.self.inside in
-    let old = c.args.self.now in
-    let b : Inside = record {
-      limits = a.limits;
-      counts = a.counts;
-      known = a.known;
-      nodes = c.make_state_room.new.nodes;
-      order =
-          c.make_state_room.new.order;
-      kept = a.kept;
-      leaves = c.make_state_room.new.leaves;
-      slots = a.slots;
-      since = c.make_state_room.new.since;
-    } in
-    let stays : seen b ≡ old = view-same a b c.self.invariant refl refl refl c.make_state_room.ensures.leaves c.make_state_room.ensures.order refl c.make_state_room.ensures.used
-    c.make_state_room.ensures.same (λ x. refl) c.make_state_room.ensures.since old c.self.view_is in
-    on_err c.from_residual-in_err-make_state_room.result (seen b ≡ old) stays
+returns-in_err-make_state_room-clause-same c = on_err c.from_residual-in_err-make_state_room.result (seen (roomless c) ≡ c.args.self.now) (roomless-same c)
 
 pub returns-in_err-make_state_room-clause-keeps : goal.returns-in_err-make_state_room-clause-keeps
-returns-in_err-make_state_room-clause-keeps c =
-    let a = c.self.inside in
-    let old = c.args.self.now in
-    let b : Inside = record {
-      limits = a.limits;
-      counts = a.counts;
-      known = a.known;
-      nodes = c.make_state_room.new.nodes;
-      order =
-          c.make_state_room.new.order;
-      kept = a.kept;
-      leaves = c.make_state_room.new.leaves;
-      slots = a.slots;
-      since = c.make_state_room.new.since;
-    } in
-    let stays : seen b ≡ old = view-same a b c.self.invariant refl refl refl c.make_state_room.ensures.leaves c.make_state_room.ensures.order refl c.make_state_room.ensures.used
-    c.make_state_room.ensures.same (λ x. refl) c.make_state_room.ensures.since old c.self.view_is in
-    subst (λ (t : Table). KeepsSlots old t) (sym stays) (λ s x h. h)
+returns-in_err-make_state_room-clause-keeps c = subst (λ (t : Table). KeepsSlots c.args.self.now t) (sym (roomless-same c)) (λ s x h. h)
 
 pub returns-in_err-make_state_room-clause-kept : goal.returns-in_err-make_state_room-clause-kept
 returns-in_err-make_state_room-clause-kept c =
-    let a = c.self.inside in
     let old = c.args.self.now in
-    let b : Inside = record {
-      limits = a.limits;
-      counts = a.counts;
-      known = a.known;
-      nodes = c.make_state_room.new.nodes;
-      order =
-          c.make_state_room.new.order;
-      kept = a.kept;
-      leaves = c.make_state_room.new.leaves;
-      slots = a.slots;
-      since = c.make_state_room.new.since;
-    } in
-    let stays : seen b ≡ old = view-same a b c.self.invariant refl refl refl c.make_state_room.ensures.leaves c.make_state_room.ensures.order refl c.make_state_room.ensures.used
-    c.make_state_room.ensures.same (λ x. refl) c.make_state_room.ensures.since old c.self.view_is in
-    subst (λ (t : Table). (s : Slot) → IsTrue (is_kept_at old s) → IsTrue (is_kept_at t s) × (arrival_at t s ≡ arrival_at old s)) (sym stays) (λ s h. (h, refl))
+    subst (λ (t : Table). (s : Slot) → IsTrue (is_kept_at old s) → IsTrue (is_kept_at t s) × (arrival_at t s ≡ arrival_at old s)) (sym (roomless-same c))
+    (λ s h. (h, refl))
 
 pub returns-in_err-make_state_room-clause-added : goal.returns-in_err-make_state_room-clause-added
 returns-in_err-make_state_room-clause-added c = λ rs ks r stands is may.
-    let a = c.self.inside in
-    let old = c.args.self.now in
-    let b : Inside = record {
-      limits = a.limits;
-      counts = a.counts;
-      known = a.known;
-      nodes = c.make_state_room.new.nodes;
-      order =
-          c.make_state_room.new.order;
-      kept = a.kept;
-      leaves = c.make_state_room.new.leaves;
-      slots = a.slots;
-      since = c.make_state_room.new.since;
-    } in
-    let stays : seen b ≡ old = view-same a b c.self.invariant refl refl refl c.make_state_room.ensures.leaves c.make_state_room.ensures.order refl c.make_state_room.ensures.used
-    c.make_state_room.ensures.same (λ x. refl) c.make_state_room.ensures.since old c.self.view_is in
     let p = err_from_is_err_and c.from_residual-in_err-make_state_room.result c.from_residual-in_err-make_state_room.ensures.1 in
     let wrong : AddFault → Result Slot AddFault = λ f. Err f in
-    subst (λ (z : Result Slot AddFault). AddedTo old (seen b) rs ks r z) (sym (p.1 ∙ ap wrong p.2)) stays
+    subst (λ (z : Result Slot AddFault). AddedTo c.args.self.now (seen (roomless c)) rs ks r z) (sym (p.1 ∙ ap wrong p.2)) (roomless-same c)
+
+-- what the memory is where there was none for its slot
+abbrev slotless : goal.After-drop-node-in_err-put-4 → Inside
+slotless c = record c.self.inside {
+  nodes = c.make_state_room.new.nodes;
+  order = c.make_state_room.new.order;
+  leaves = c.make_state_room.new.leaves;
+  since = c.make_state_room.new.since;
+  slots = c.put.new.self;
+}
+
+slotless-same : (c : goal.After-drop-node-in_err-put-4) → seen (slotless c) ≡ c.args.self.now
+slotless-same c =
+    view-same c.self.inside (slotless c) c.self.invariant refl refl refl c.make_state_room.ensures.leaves c.make_state_room.ensures.order refl
+    c.make_state_room.ensures.used c.make_state_room.ensures.same c.in_err-put.ensures.same c.make_state_room.ensures.since c.args.self.now c.self.view_is
 
 pub returns-in_err-put-clause-same : goal.returns-in_err-put-clause-same
-returns-in_err-put-clause-same c =
-    let a = c.self.inside in
-    let old = c.args.self.now in
-    let b : Inside = record {
-      limits = a.limits;
-      counts = a.counts;
-      known = a.known;
-      nodes = c.make_state_room.new.nodes;
-      order =
-          c.make_state_room.new.order;
-      kept = a.kept;
-      leaves = c.make_state_room.new.leaves;
-      slots = c.put.new.self;
-      since = c.make_state_room.new.since;
-    } in
-    let stays : seen b ≡ old = view-same a b c.self.invariant refl refl refl c.make_state_room.ensures.leaves c.make_state_room.ensures.order refl c.make_state_room.ensures.used
-    c.make_state_room.ensures.same c.in_err-put.ensures.same c.make_state_room.ensures.since old c.self.view_is in
-    on_err c.from_residual-in_err-put.result (seen b ≡ old) stays
+returns-in_err-put-clause-same c = on_err c.from_residual-in_err-put.result (seen (slotless c) ≡ c.args.self.now) (slotless-same c)
 
 pub returns-in_err-put-clause-keeps : goal.returns-in_err-put-clause-keeps
-returns-in_err-put-clause-keeps c =
-    let a = c.self.inside in
-    let old = c.args.self.now in
-    let b : Inside = record {
-      limits = a.limits;
-      counts = a.counts;
-      known = a.known;
-      nodes = c.make_state_room.new.nodes;
-      order =
-          c.make_state_room.new.order;
-      kept = a.kept;
-      leaves = c.make_state_room.new.leaves;
-      slots = c.put.new.self;
-      since = c.make_state_room.new.since;
-    } in
-    let stays : seen b ≡ old = view-same a b c.self.invariant refl refl refl c.make_state_room.ensures.leaves c.make_state_room.ensures.order refl c.make_state_room.ensures.used
-    c.make_state_room.ensures.same c.in_err-put.ensures.same c.make_state_room.ensures.since old c.self.view_is in
-    subst (λ (t : Table). KeepsSlots old t) (sym stays) (λ s x h. h)
+returns-in_err-put-clause-keeps c = subst (λ (t : Table). KeepsSlots c.args.self.now t) (sym (slotless-same c)) (λ s x h. h)
 
 pub returns-in_err-put-clause-kept : goal.returns-in_err-put-clause-kept
 returns-in_err-put-clause-kept c =
-    let a = c.self.inside in
     let old = c.args.self.now in
-    let b : Inside = record {
-      limits = a.limits;
-      counts = a.counts;
-      known = a.known;
-      nodes = c.make_state_room.new.nodes;
-      order =
-          c.make_state_room.new.order;
-      kept = a.kept;
-      leaves = c.make_state_room.new.leaves;
-      slots = c.put.new.self;
-      since = c.make_state_room.new.since;
-    } in
-    let stays : seen b ≡ old = view-same a b c.self.invariant refl refl refl c.make_state_room.ensures.leaves c.make_state_room.ensures.order refl c.make_state_room.ensures.used
-    c.make_state_room.ensures.same c.in_err-put.ensures.same c.make_state_room.ensures.since old c.self.view_is in
-    subst (λ (t : Table). (s : Slot) → IsTrue (is_kept_at old s) → IsTrue (is_kept_at t s) × (arrival_at t s ≡ arrival_at old s)) (sym stays) (λ s h. (h, refl))
+    subst (λ (t : Table). (s : Slot) → IsTrue (is_kept_at old s) → IsTrue (is_kept_at t s) × (arrival_at t s ≡ arrival_at old s)) (sym (slotless-same c))
+    (λ s h. (h, refl))
 
 pub returns-in_err-put-clause-added : goal.returns-in_err-put-clause-added
 returns-in_err-put-clause-added c = λ rs ks r stands is may.
-    let a = c.self.inside in
-    let old = c.args.self.now in
-    let b : Inside = record {
-      limits = a.limits;
-      counts = a.counts;
-      known = a.known;
-      nodes = c.make_state_room.new.nodes;
-      order =
-          c.make_state_room.new.order;
-      kept = a.kept;
-      leaves = c.make_state_room.new.leaves;
-      slots = c.put.new.self;
-      since = c.make_state_room.new.since;
-    } in
-    let stays : seen b ≡ old = view-same a b c.self.invariant refl refl refl c.make_state_room.ensures.leaves c.make_state_room.ensures.order refl c.make_state_room.ensures.used
-    c.make_state_room.ensures.same c.in_err-put.ensures.same c.make_state_room.ensures.since old c.self.view_is in
     let p = err_from_is_err_and c.from_residual-in_err-put.result c.from_residual-in_err-put.ensures.1 in
     let wrong : AddFault → Result Slot AddFault = λ f. Err f in
-    subst (λ (z : Result Slot AddFault). AddedTo old (seen b) rs ks r z) (sym (p.1 ∙ ap wrong p.2)) stays
+    subst (λ (z : Result Slot AddFault). AddedTo c.args.self.now (seen (slotless c)) rs ks r z) (sym (p.1 ∙ ap wrong p.2)) (slotless-same c)
 
 -- the slot is the next one
 is-next : (c : goal.After-drop-gains-2) → IsNext c.self.inside c.next_slot-slot.result c.grow.new.nodes.items c.in_ok-node.node
