@@ -97,15 +97,15 @@ impl StateDag {
         ensures limits { IfOk result (λ table. table.limits ≡ limits.now) }
     {
         let counts = vec![in alloc; 0u32; limits.sites as usize]?;
-        let mut nodes = Vec::new(alloc);
-        nodes.push(root_node(alloc))?;
-        let order = SlotOrder::new(alloc)?;
-        let mut leaves = Vec::new(alloc);
-        leaves.push(Slot(0))?;
-        let mut slots = IdSlots::new(alloc);
-        slots.put(StateId::ROOT, Slot(0))?;
         let mut since = Vec::new(alloc);
         since.push(0)?;
+        let mut leaves = Vec::new(alloc);
+        leaves.push(Slot(0))?;
+        let order = SlotOrder::new(alloc)?;
+        let mut slots = IdSlots::new(alloc);
+        slots.put(StateId::ROOT, Slot(0))?;
+        let mut nodes = Vec::new(alloc);
+        nodes.push(root_node(alloc))?;
         Ok(StateDag {
             limits: *limits,
             counts,
@@ -146,20 +146,21 @@ impl StateDag {
         ensures same { OnErr result (self.new ≡ self.old) }
     {
         let (node, gains) = self.growth(id, parents)?;
+        let gains = gains.as_slice();
         make_state_room(
             &mut self.nodes,
             &mut self.order,
             &mut self.leaves,
             &mut self.since,
             parents,
-            &gains,
+            gains,
         )?;
         let slot = next_slot(&self.order, self.kept);
         self.slots.put(id, slot)?;
-        let since = first_arrival(&self.nodes, parents);
-        put_time(&mut self.since, slot, since);
-        drop_slots(&self.nodes, &mut self.leaves, parents);
-        grow(&mut self.nodes, parents, &gains, id, slot);
+        let nodes = self.nodes.as_slice();
+        put_time(&mut self.since, slot, first_arrival(nodes, parents));
+        drop_slots(nodes, &mut self.leaves, parents);
+        grow(&mut self.nodes, parents, gains, id, slot);
         put_node(&mut self.nodes, slot, node);
         self.order.keep(slot);
         self.leaves.push_reserved(slot);
@@ -184,9 +185,10 @@ impl StateDag {
             return Err(AddFault::Full { kept: self.kept });
         }
         let alloc = *self.nodes.allocator();
-        let node = new_node(alloc, &self.nodes, parents, id, self.known)?;
+        let nodes = self.nodes.as_slice();
+        let node = new_node(alloc, nodes, parents, id, self.known)?;
         let kept = self.order.kept();
-        let gains = gains(alloc, &self.nodes, kept, parents, &self.limits)?;
+        let gains = gains(alloc, nodes, kept, parents, &self.limits)?;
         check_path(&node, &self.limits)?;
         Ok((node, gains))
     }

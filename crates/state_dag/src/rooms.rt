@@ -8,9 +8,7 @@ ghost use Rattle.state_dag.specs.Nodes.{are_places, have_places, is_gaining, gai
 use crate::leads::Gain;
 use crate::nodes::Node;
 use crate::slot_order::SlotOrder;
-use crate::slots::make_slot_room;
 use crate::sums::in_u32;
-use crate::times::make_time_room;
 use tardis_base::{NoMemory, Slot};
 
 /// Makes room for one more state below these parents: for its node, its time and what others get, and for its slot among all
@@ -40,8 +38,9 @@ pub fn make_state_room(
 {
     make_room(nodes, parents, gains)?;
     order.reserve()?;
-    make_time_room(since)?;
-    make_slot_room(leaves)
+    since.reserve(1)?;
+    leaves.reserve(1)?;
+    Ok(())
 }
 
 /// Makes room for a new node and for what its parents and the gaining paths get.

@@ -99,13 +99,13 @@ impl StateDag {
                 sequence: last - 1,
             }
         };
-        let parents = only(*self.nodes.allocator(), before);
         let id = StateId {
             site,
             sequence: last,
         };
         self.slots.put(id, slot)?;
         self.slots.remove(above);
+        let parents = only(*self.nodes.allocator(), before);
         let known = self.known + u64::from(count);
         move_on(&mut self.nodes, slot, id, known - 1, parents);
         set_count(&mut self.counts, site, last);

@@ -1,6 +1,6 @@
 //! Which slot each kept state has.
 
-ghost use Rattle.std.specs.Prelude.{◌≡◌, ◌==◌, ◌-◌, ◌≤◌, ◌<◌, not, filter, length, slice_get, slice_index_or, OnOk, vec_len, vec_capacity};
+ghost use Rattle.std.specs.Prelude.{◌≡◌, ◌==◌, ◌-◌, ◌≤◌, ◌<◌, not, filter, length, slice_get, slice_index_or, vec_len, vec_capacity};
 ghost use Rattle.state_dag.specs.Shared.{common};
 ghost use Rattle.state_dag.specs.Table.{arrival_at};
 ghost use Rattle.state_dag.specs.Grown.{is_slot_among};
@@ -8,17 +8,7 @@ ghost use Rattle.state_dag.specs.Nodes.{table_of, slot_after_all, Rise};
 
 use crate::nodes::{Node, arrival_in, first_from};
 use crate::slot_order::SlotOrder;
-use tardis_base::{NoMemory, Slot};
-
-/// Makes room for one more slot.
-pub fn make_slot_room(slots: &mut Vec<Slot>) -> Result<(), NoMemory>
-    ensures items { slots.new.items ≡ slots.old.items }
-    ensures len { vec_len slots.new ≡ vec_len slots.old }
-    ensures room { OnOk result (vec_len slots.new < vec_capacity slots.new) }
-{
-    slots.reserve(1)?;
-    Ok(())
-}
+use tardis_base::Slot;
 
 /// The slot that one more gets where so many are in use: the first of the others, or else the next number.
 pub fn next_slot(order: &SlotOrder, used: u32) -> Slot

@@ -1,22 +1,12 @@
 //! Since when children of kept states stand in each slot: the arrival of the first such state, or less.
 
-ghost use Rattle.std.specs.Prelude.{◌≡◌, ℕ, ◌<◌, ◌≤◌, length, slice_index_or, OnOk, vec_len, vec_capacity};
+ghost use Rattle.std.specs.Prelude.{◌≡◌, ℕ, ◌<◌, ◌≤◌, length, slice_index_or, vec_len, vec_capacity};
 ghost use Rattle.tardis_base.specs.declared.ids.Slot.{Slot};
 ghost use Rattle.state_dag.specs.Table.{arrival_at};
 ghost use Rattle.state_dag.specs.Nodes.{table_of};
 
 use crate::nodes::{Node, arrival_in};
-use tardis_base::{NoMemory, Slot};
-
-/// Makes room for one more.
-pub fn make_time_room(since: &mut Vec<u64>) -> Result<(), NoMemory>
-    ensures items { since.new.items ≡ since.old.items }
-    ensures len { vec_len since.new ≡ vec_len since.old }
-    ensures room { OnOk result (vec_len since.new < vec_capacity since.new) }
-{
-    since.reserve(1)?;
-    Ok(())
-}
+use tardis_base::Slot;
 
 /// How many states had arrived before the first of these, or less.
 pub fn first_arrival(nodes: &[Node], slots: &[Slot]) -> u64

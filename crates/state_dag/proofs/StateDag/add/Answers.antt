@@ -15,8 +15,7 @@ use Rattle.state_dag.specs.Views.{entry_of, entries_in}
 use Rattle.state_dag.specs.Stands.{Stands}
 use Rattle.state_dag.specs.Answers.{MayBeAdded, AddedTo, IsNewSlot, KeepsSlots}
 use Rattle.state_dag.specs.Grown.{is_slot_among, refusal_of, too_long, IsNewEntry, IsGrown}
-use Rattle.state_dag.specs.declared.leads.Gain.{Gain}
-use Rattle.state_dag.specs.Nodes.{HasPathRoom, table_of, path_refusal, slot_after_all, with_slot}
+use Rattle.state_dag.specs.Nodes.{table_of, path_refusal, slot_after_all, with_slot}
 use Rattle.state_dag.specs.Held.{kept_of, seen}
 use Rattle.state_dag.proofs.NewIds.{uncounted-none}
 use Rattle.state_dag.proofs.Following.{Follow}
@@ -46,15 +45,15 @@ make_state_room-requires-clause-places c = parents-placed c.self.inside c.self.i
 
 pub make_state_room-requires-clause-gains : goal.make_state_room-requires-clause-gains
 make_state_room-requires-clause-gains c = gains-at_places c.self.inside c.self.invariant c.args.self.now c.self.view_is c.args.parents.now c.requires.slots
-    c.deref.result.now (c.deref.ensures.value ∙ gains-now c.self.inside c.self.invariant c.args.self.now c.self.view_is c.args.parents.now c.requires.slots c.in_ok-node.gains.items c.in_ok-node.ensures.gains) c.self.inside.nodes.items refl
+    c.as_slice-gains.result.now (c.as_slice-gains.ensures.value ∙ gains-now c.self.inside c.self.invariant c.args.self.now c.self.view_is c.args.parents.now c.requires.slots c.in_ok-node.gains.items c.in_ok-node.ensures.gains) c.self.inside.nodes.items refl
 
 pub make_state_room-requires-clause-few : goal.make_state_room-requires-clause-few
 make_state_room-requires-clause-few c = few-gains c.self.inside c.self.invariant c.args.self.now c.self.view_is c.args.parents.now c.requires.slots
-    c.deref.result.now (c.deref.ensures.value ∙ gains-now c.self.inside c.self.invariant c.args.self.now c.self.view_is c.args.parents.now c.requires.slots c.in_ok-node.gains.items c.in_ok-node.ensures.gains)
+    c.as_slice-gains.result.now (c.as_slice-gains.ensures.value ∙ gains-now c.self.inside c.self.invariant c.args.self.now c.self.view_is c.args.parents.now c.requires.slots c.in_ok-node.gains.items c.in_ok-node.ensures.gains)
 
 pub drop_slots-requires : goal.drop_slots-requires
 drop_slots-requires c = leaves-in_order c.self.inside c.self.invariant c.args.self.now c.self.view_is c.args.parents.now c.requires.slots
-    c.make_state_room.new.nodes.items c.deref-3.result.now c.make_state_room.new.leaves.items c.deref-3.ensures.value c.make_state_room.ensures.same
+    c.make_state_room.new.nodes.items c.as_slice-nodes.result.now c.make_state_room.new.leaves.items c.as_slice-nodes.ensures.value c.make_state_room.ensures.same
     c.make_state_room.ensures.leaves
 
 pub grow-requires-clause-places : goal.grow-requires-clause-places
@@ -65,7 +64,7 @@ grow-requires-clause-places c =
 
 pub grow-requires-clause-gains : goal.grow-requires-clause-gains
 grow-requires-clause-gains c = gains-at_places c.self.inside c.self.invariant c.args.self.now c.self.view_is c.args.parents.now c.requires.slots
-    c.deref-4.result.now (c.deref-4.ensures.value ∙ gains-now c.self.inside c.self.invariant c.args.self.now c.self.view_is c.args.parents.now c.requires.slots c.in_ok-node.gains.items c.in_ok-node.ensures.gains) c.make_state_room.new.nodes.items
+    c.as_slice-gains.result.now (c.as_slice-gains.ensures.value ∙ gains-now c.self.inside c.self.invariant c.args.self.now c.self.view_is c.args.parents.now c.requires.slots c.in_ok-node.gains.items c.in_ok-node.ensures.gains) c.make_state_room.new.nodes.items
     (same-count c.make_state_room.new.nodes.items c.self.inside.nodes.items c.make_state_room.ensures.same)
 
 pub invariant_of-self : goal.invariant_of-self
@@ -132,169 +131,70 @@ on_err : (r : Result Slot AddFault) (P : Type 0) → P → OnErr r P
 on_err (Ok s) P p = tt
 on_err (Err f) P p = p
 
+-- what the memory is where there was no room for the state
+abbrev roomless : goal.After-drop-node-in_err-make_state_room-3 → Inside
+roomless c = record c.self.inside {
+  nodes = c.make_state_room.new.nodes;
+  order = c.make_state_room.new.order;
+  leaves = c.make_state_room.new.leaves;
+  since = c.make_state_room.new.since;
+}
+
+roomless-same : (c : goal.After-drop-node-in_err-make_state_room-3) → seen (roomless c) ≡ c.args.self.now
+roomless-same c =
+    view-same c.self.inside (roomless c) c.self.invariant refl refl refl c.make_state_room.ensures.leaves c.make_state_room.ensures.order refl
+    c.make_state_room.ensures.used c.make_state_room.ensures.same (λ x. refl) c.make_state_room.ensures.since c.args.self.now c.self.view_is
+
 pub returns-in_err-make_state_room-clause-same : goal.returns-in_err-make_state_room-clause-same
-returns-in_err-make_state_room-clause-same c =
-    let a = c.self.inside in
-    let old = c.args.self.now in
-    let b : Inside = record {
-      limits = a.limits;
-      counts = a.counts;
-      known = a.known;
-      nodes = c.make_state_room.new.nodes;
-      order =
-          c.make_state_room.new.order;
-      kept = a.kept;
-      leaves = c.make_state_room.new.leaves;
-      slots = a.slots;
-      since = c.make_state_room.new.since;
-    } in
-    let stays : seen b ≡ old = view-same a b c.self.invariant refl refl refl c.make_state_room.ensures.leaves c.make_state_room.ensures.order refl c.make_state_room.ensures.used
-    c.make_state_room.ensures.same (λ x. refl) c.make_state_room.ensures.since old c.self.view_is in
-    on_err c.from_residual-in_err-make_state_room.result (seen b ≡ old) stays
+returns-in_err-make_state_room-clause-same c = on_err c.from_residual-in_err-make_state_room.result (seen (roomless c) ≡ c.args.self.now) (roomless-same c)
 
 pub returns-in_err-make_state_room-clause-keeps : goal.returns-in_err-make_state_room-clause-keeps
-returns-in_err-make_state_room-clause-keeps c =
-    let a = c.self.inside in
-    let old = c.args.self.now in
-    let b : Inside = record {
-      limits = a.limits;
-      counts = a.counts;
-      known = a.known;
-      nodes = c.make_state_room.new.nodes;
-      order =
-          c.make_state_room.new.order;
-      kept = a.kept;
-      leaves = c.make_state_room.new.leaves;
-      slots = a.slots;
-      since = c.make_state_room.new.since;
-    } in
-    let stays : seen b ≡ old = view-same a b c.self.invariant refl refl refl c.make_state_room.ensures.leaves c.make_state_room.ensures.order refl c.make_state_room.ensures.used
-    c.make_state_room.ensures.same (λ x. refl) c.make_state_room.ensures.since old c.self.view_is in
-    subst (λ (t : Table). KeepsSlots old t) (sym stays) (λ s x h. h)
+returns-in_err-make_state_room-clause-keeps c = subst (λ (t : Table). KeepsSlots c.args.self.now t) (sym (roomless-same c)) (λ s x h. h)
 
 pub returns-in_err-make_state_room-clause-kept : goal.returns-in_err-make_state_room-clause-kept
 returns-in_err-make_state_room-clause-kept c =
-    let a = c.self.inside in
     let old = c.args.self.now in
-    let b : Inside = record {
-      limits = a.limits;
-      counts = a.counts;
-      known = a.known;
-      nodes = c.make_state_room.new.nodes;
-      order =
-          c.make_state_room.new.order;
-      kept = a.kept;
-      leaves = c.make_state_room.new.leaves;
-      slots = a.slots;
-      since = c.make_state_room.new.since;
-    } in
-    let stays : seen b ≡ old = view-same a b c.self.invariant refl refl refl c.make_state_room.ensures.leaves c.make_state_room.ensures.order refl c.make_state_room.ensures.used
-    c.make_state_room.ensures.same (λ x. refl) c.make_state_room.ensures.since old c.self.view_is in
-    subst (λ (t : Table). (s : Slot) → IsTrue (is_kept_at old s) → IsTrue (is_kept_at t s) × (arrival_at t s ≡ arrival_at old s)) (sym stays) (λ s h. (h, refl))
+    subst (λ (t : Table). (s : Slot) → IsTrue (is_kept_at old s) → IsTrue (is_kept_at t s) × (arrival_at t s ≡ arrival_at old s)) (sym (roomless-same c))
+    (λ s h. (h, refl))
 
 pub returns-in_err-make_state_room-clause-added : goal.returns-in_err-make_state_room-clause-added
 returns-in_err-make_state_room-clause-added c = λ rs ks r stands is may.
-    let a = c.self.inside in
-    let old = c.args.self.now in
-    let b : Inside = record {
-      limits = a.limits;
-      counts = a.counts;
-      known = a.known;
-      nodes = c.make_state_room.new.nodes;
-      order =
-          c.make_state_room.new.order;
-      kept = a.kept;
-      leaves = c.make_state_room.new.leaves;
-      slots = a.slots;
-      since = c.make_state_room.new.since;
-    } in
-    let stays : seen b ≡ old = view-same a b c.self.invariant refl refl refl c.make_state_room.ensures.leaves c.make_state_room.ensures.order refl c.make_state_room.ensures.used
-    c.make_state_room.ensures.same (λ x. refl) c.make_state_room.ensures.since old c.self.view_is in
     let p = err_from_is_err_and c.from_residual-in_err-make_state_room.result c.from_residual-in_err-make_state_room.ensures.1 in
     let wrong : AddFault → Result Slot AddFault = λ f. Err f in
-    subst (λ (z : Result Slot AddFault). AddedTo old (seen b) rs ks r z) (sym (p.1 ∙ ap wrong p.2)) stays
+    subst (λ (z : Result Slot AddFault). AddedTo c.args.self.now (seen (roomless c)) rs ks r z) (sym (p.1 ∙ ap wrong p.2)) (roomless-same c)
+
+-- what the memory is where there was none for its slot
+abbrev slotless : goal.After-drop-node-in_err-put-4 → Inside
+slotless c = record c.self.inside {
+  nodes = c.make_state_room.new.nodes;
+  order = c.make_state_room.new.order;
+  leaves = c.make_state_room.new.leaves;
+  since = c.make_state_room.new.since;
+  slots = c.put.new.self;
+}
+
+slotless-same : (c : goal.After-drop-node-in_err-put-4) → seen (slotless c) ≡ c.args.self.now
+slotless-same c =
+    view-same c.self.inside (slotless c) c.self.invariant refl refl refl c.make_state_room.ensures.leaves c.make_state_room.ensures.order refl
+    c.make_state_room.ensures.used c.make_state_room.ensures.same c.in_err-put.ensures.same c.make_state_room.ensures.since c.args.self.now c.self.view_is
 
 pub returns-in_err-put-clause-same : goal.returns-in_err-put-clause-same
-returns-in_err-put-clause-same c =
-    let a = c.self.inside in
-    let old = c.args.self.now in
-    let b : Inside = record {
-      limits = a.limits;
-      counts = a.counts;
-      known = a.known;
-      nodes = c.make_state_room.new.nodes;
-      order =
-          c.make_state_room.new.order;
-      kept = a.kept;
-      leaves = c.make_state_room.new.leaves;
-      slots = c.put.new.self;
-      since = c.make_state_room.new.since;
-    } in
-    let stays : seen b ≡ old = view-same a b c.self.invariant refl refl refl c.make_state_room.ensures.leaves c.make_state_room.ensures.order refl c.make_state_room.ensures.used
-    c.make_state_room.ensures.same c.in_err-put.ensures.same c.make_state_room.ensures.since old c.self.view_is in
-    on_err c.from_residual-in_err-put.result (seen b ≡ old) stays
+returns-in_err-put-clause-same c = on_err c.from_residual-in_err-put.result (seen (slotless c) ≡ c.args.self.now) (slotless-same c)
 
 pub returns-in_err-put-clause-keeps : goal.returns-in_err-put-clause-keeps
-returns-in_err-put-clause-keeps c =
-    let a = c.self.inside in
-    let old = c.args.self.now in
-    let b : Inside = record {
-      limits = a.limits;
-      counts = a.counts;
-      known = a.known;
-      nodes = c.make_state_room.new.nodes;
-      order =
-          c.make_state_room.new.order;
-      kept = a.kept;
-      leaves = c.make_state_room.new.leaves;
-      slots = c.put.new.self;
-      since = c.make_state_room.new.since;
-    } in
-    let stays : seen b ≡ old = view-same a b c.self.invariant refl refl refl c.make_state_room.ensures.leaves c.make_state_room.ensures.order refl c.make_state_room.ensures.used
-    c.make_state_room.ensures.same c.in_err-put.ensures.same c.make_state_room.ensures.since old c.self.view_is in
-    subst (λ (t : Table). KeepsSlots old t) (sym stays) (λ s x h. h)
+returns-in_err-put-clause-keeps c = subst (λ (t : Table). KeepsSlots c.args.self.now t) (sym (slotless-same c)) (λ s x h. h)
 
 pub returns-in_err-put-clause-kept : goal.returns-in_err-put-clause-kept
 returns-in_err-put-clause-kept c =
-    let a = c.self.inside in
     let old = c.args.self.now in
-    let b : Inside = record {
-      limits = a.limits;
-      counts = a.counts;
-      known = a.known;
-      nodes = c.make_state_room.new.nodes;
-      order =
-          c.make_state_room.new.order;
-      kept = a.kept;
-      leaves = c.make_state_room.new.leaves;
-      slots = c.put.new.self;
-      since = c.make_state_room.new.since;
-    } in
-    let stays : seen b ≡ old = view-same a b c.self.invariant refl refl refl c.make_state_room.ensures.leaves c.make_state_room.ensures.order refl c.make_state_room.ensures.used
-    c.make_state_room.ensures.same c.in_err-put.ensures.same c.make_state_room.ensures.since old c.self.view_is in
-    subst (λ (t : Table). (s : Slot) → IsTrue (is_kept_at old s) → IsTrue (is_kept_at t s) × (arrival_at t s ≡ arrival_at old s)) (sym stays) (λ s h. (h, refl))
+    subst (λ (t : Table). (s : Slot) → IsTrue (is_kept_at old s) → IsTrue (is_kept_at t s) × (arrival_at t s ≡ arrival_at old s)) (sym (slotless-same c))
+    (λ s h. (h, refl))
 
 pub returns-in_err-put-clause-added : goal.returns-in_err-put-clause-added
 returns-in_err-put-clause-added c = λ rs ks r stands is may.
-    let a = c.self.inside in
-    let old = c.args.self.now in
-    let b : Inside = record {
-      limits = a.limits;
-      counts = a.counts;
-      known = a.known;
-      nodes = c.make_state_room.new.nodes;
-      order =
-          c.make_state_room.new.order;
-      kept = a.kept;
-      leaves = c.make_state_room.new.leaves;
-      slots = c.put.new.self;
-      since = c.make_state_room.new.since;
-    } in
-    let stays : seen b ≡ old = view-same a b c.self.invariant refl refl refl c.make_state_room.ensures.leaves c.make_state_room.ensures.order refl c.make_state_room.ensures.used
-    c.make_state_room.ensures.same c.in_err-put.ensures.same c.make_state_room.ensures.since old c.self.view_is in
     let p = err_from_is_err_and c.from_residual-in_err-put.result c.from_residual-in_err-put.ensures.1 in
     let wrong : AddFault → Result Slot AddFault = λ f. Err f in
-    subst (λ (z : Result Slot AddFault). AddedTo old (seen b) rs ks r z) (sym (p.1 ∙ ap wrong p.2)) stays
+    subst (λ (z : Result Slot AddFault). AddedTo c.args.self.now (seen (slotless c)) rs ks r z) (sym (p.1 ∙ ap wrong p.2)) (slotless-same c)
 
 -- the slot is the next one
 is-next : (c : goal.After-drop-gains-2) → IsNext c.self.inside c.next_slot-slot.result c.grow.new.nodes.items c.in_ok-node.node
@@ -312,8 +212,8 @@ is-next c =
 follows : (c : goal.After-drop-gains-2) → Follow (Became (seen c.self.inside) c.args.parents.now c.args.id c.next_slot-slot.result)
     (seen c.self.inside).entries (entries_in c.grow.new.nodes.items (kept_of c.self.inside))
 follows c =
-    all-grown c.self.inside c.self.invariant c.args.self.now c.self.view_is c.args.parents.now c.requires.slots c.deref-4.result.now
-    (c.deref-4.ensures.value ∙ gains-now c.self.inside c.self.invariant c.args.self.now c.self.view_is c.args.parents.now c.requires.slots c.in_ok-node.gains.items c.in_ok-node.ensures.gains) c.make_state_room.new.nodes.items
+    all-grown c.self.inside c.self.invariant c.args.self.now c.self.view_is c.args.parents.now c.requires.slots c.as_slice-gains.result.now
+    (c.as_slice-gains.ensures.value ∙ gains-now c.self.inside c.self.invariant c.args.self.now c.self.view_is c.args.parents.now c.requires.slots c.in_ok-node.gains.items c.in_ok-node.ensures.gains) c.make_state_room.new.nodes.items
     c.grow.new.nodes.items c.in_ok-node.node c.args.id c.next_slot-slot.result c.make_state_room.ensures.same c.grow.ensures.count c.grow.ensures.each
 
 same-nodes : (c : goal.After-drop-gains-2) → length c.grow.new.nodes.items ≡ length c.self.inside.nodes.items
@@ -391,13 +291,13 @@ put_time-requires-clause-slot c =
 
 -- each parent arrived no sooner than the new slot's time
 early-nodes : (c : goal.After-drop-gains-2) → (k : ℕ) → is_slot_among (record { 0 = k }) c.args.parents.now ≡ true →
-    c.first_arrival-since.result ≤ arrival_at (table_of c.self.inside.nodes.items) (record { 0 = k })
+    c.first_arrival.result ≤ arrival_at (table_of c.self.inside.nodes.items) (record { 0 = k })
 early-nodes c k there =
-    let same : table_of c.deref-2.result.now ≡ table_of c.self.inside.nodes.items =
-    ap table_of c.deref-2.ensures.value ∙ ap (λ es. record (table_of c.self.inside.nodes.items) { entries = es }) c.make_state_room.ensures.same in
-    among-passes (arrival_at (table_of c.self.inside.nodes.items)) c.first_arrival-since.result c.args.parents.now
-    (subst (λ (t : Table). (i : ℕ) (d : Slot) → i < length c.args.parents.now → c.first_arrival-since.result ≤ arrival_at t (get_or c.args.parents.now i d))
-    same c.first_arrival-since.ensures) k there
+    let same : table_of c.as_slice-nodes.result.now ≡ table_of c.self.inside.nodes.items =
+    ap table_of c.as_slice-nodes.ensures.value ∙ ap (λ es. record (table_of c.self.inside.nodes.items) { entries = es }) c.make_state_room.ensures.same in
+    among-passes (arrival_at (table_of c.self.inside.nodes.items)) c.first_arrival.result c.args.parents.now
+    (subst (λ (t : Table). (i : ℕ) (d : Slot) → i < length c.args.parents.now → c.first_arrival.result ≤ arrival_at t (get_or c.args.parents.now i d))
+    same c.first_arrival.ensures) k there
 
 pub invariant_of-self-2 : goal.invariant_of-self-2
 invariant_of-self-2 c =
@@ -423,9 +323,9 @@ invariant_of-self-2 c =
     (let first = c.requires.first in let last = c.requires.last in omega arith)
     (c.requires.next ∙ ap (λ (m : ℕ). m + 1) (unwrap_or-slice_get c.args.self.now.counts i 0
     ∙ ap (λ (t : Table). get_or t.counts i 0) (sym c.self.view_is))) c.set_count.ensures.fits refl refl
-    c.first_arrival-since.result c.put_time.ensures.own (λ k ne. c.put_time.ensures.others k ne ∙ ap (λ ts. get_or ts k 0) c.make_state_room.ensures.since)
+    c.first_arrival.result c.put_time.ensures.own (λ k ne. c.put_time.ensures.others k ne ∙ ap (λ ts. get_or ts k 0) c.make_state_room.ensures.since)
     (let more = c.put_time.ensures.longer in let same = ap length c.make_state_room.ensures.since in omega arith) c.put_time.ensures.there
-    (early-entries a c.self.invariant c.args.parents.now c.first_arrival-since.result (early-nodes c))
+    (early-entries a c.self.invariant c.args.parents.now c.first_arrival.result (early-nodes c))
 
 pub returns-clause-slot : goal.returns-clause-slot
 returns-clause-slot c = subst (λ (t : Table). IsNewSlot t (seen (inside-next c)) c.args.id c.next_slot-slot.result) c.self.view_is
@@ -523,9 +423,7 @@ pub growth-requires : goal.growth-requires
 growth-requires c = c.requires.slots
 
 pub grow-requires-clause-paths : goal.grow-requires-clause-paths
-grow-requires-clause-paths c =
-    subst (λ (gs : List Gain). HasPathRoom c.make_state_room.new.nodes.items gs) (c.deref.ensures.value ∙ sym c.deref-4.ensures.value)
-    c.in_ok-make_state_room.ensures.paths
+grow-requires-clause-paths c = c.in_ok-make_state_room.ensures.paths
 
 pub grow-requires-clause-children : goal.grow-requires-clause-children
 grow-requires-clause-children c = c.in_ok-make_state_room.ensures.children

@@ -70,6 +70,27 @@ put-requires c = λ x of_site from.
     let counted = ap (λ (n : ℕ). get_or a.counts.items (n - 1) 0) of_site in
     c.self.invariant.indexed x ∙ uncounted-none a.counts.items x (seen a).entries c.self.invariant.among_counted (omega arith)
 
+pub overflow_sub-before : goal.overflow_sub-before
+overflow_sub-before c =
+    let number = c.in_ok-last.ensures.number in
+    let some = (allowed c.args.self.now c.args.site c.args.count c.in_ok-last.ensures.fault).some in
+    omega arith
+
+pub overflow_sub-known : goal.overflow_sub-known
+overflow_sub-known c =
+    let counted = c.self.invariant.counted in
+    omega arith
+
+pub set_count-requires-clause-first : goal.set_count-requires-clause-first
+set_count-requires-clause-first c = (allowed c.args.self.now c.args.site c.args.count c.in_ok-last.ensures.fault).first
+
+pub set_count-requires-clause-last : goal.set_count-requires-clause-last
+set_count-requires-clause-last c =
+    let last = (allowed c.args.self.now c.args.site c.args.count c.in_ok-last.ensures.fault).last in
+    let most = ap (λ (t : Table). t.limits.sites) c.self.view_is in
+    let sites = c.self.invariant.sites in
+    omega arith
+
 pub overflow_add-known : goal.overflow_add-known
 overflow_add-known c =
     let sums = sum-within c.self.inside.counts.items c.self.invariant.fit in

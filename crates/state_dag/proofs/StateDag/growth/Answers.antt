@@ -26,22 +26,22 @@ passed_on {A} P r passed fault is same holds = subst (λ (z : Result A AddFault)
 
 pub new_node-requires : goal.new_node-requires
 new_node-requires c =
-    subst (λ (ns : List Node). list_all (λ (s : Slot). ltb s.0 (length ns)) c.args.parents.now ≡ true) (sym c.deref.ensures.value)
+    subst (λ (ns : List Node). list_all (λ (s : Slot). ltb s.0 (length ns)) c.args.parents.now ≡ true) (sym c.as_slice-nodes.ensures.value)
     (parents-placed c.self.inside c.self.invariant c.args.self.now c.self.view_is c.args.parents.now c.requires)
 
 pub gains-requires-clause-places : goal.gains-requires-clause-places
 gains-requires-clause-places c =
-    subst (λ (ns : List Node). list_all (λ (s : Slot). ltb s.0 (length ns)) c.kept-kept.result.now ≡ true) (sym c.deref-2.ensures.value)
+    subst (λ (ns : List Node). list_all (λ (s : Slot). ltb s.0 (length ns)) c.kept-kept.result.now ≡ true) (sym c.as_slice-nodes.ensures.value)
     (subst (λ (ss : List Slot). list_all (λ (s : Slot). ltb s.0 (length c.self.inside.nodes.items)) ss ≡ true)
     (sym (c.kept-kept.ensures ∙ kept-now c.self.inside c.self.invariant)) (kept-placed c.self.inside c.self.invariant))
 
 pub gains-requires-clause-in_order : goal.gains-requires-clause-in_order
-gains-requires-clause-in_order c = slots-ascend c.self.inside c.self.invariant c.deref-2.result.now c.kept-kept.result.now
-    c.deref-2.ensures.value (c.kept-kept.ensures ∙ kept-now c.self.inside c.self.invariant)
+gains-requires-clause-in_order c = slots-ascend c.self.inside c.self.invariant c.as_slice-nodes.result.now c.kept-kept.result.now
+    c.as_slice-nodes.ensures.value (c.kept-kept.ensures ∙ kept-now c.self.inside c.self.invariant)
 
 pub gains-requires-clause-short : goal.gains-requires-clause-short
 gains-requires-clause-short c = short-kept c.self.inside c.self.invariant c.args.self.now c.self.view_is c.args.parents.now c.requires
-    c.deref-2.result.now c.kept-kept.result.now c.deref-2.ensures.value (c.kept-kept.ensures ∙ kept-now c.self.inside c.self.invariant)
+    c.as_slice-nodes.result.now c.kept-kept.result.now c.as_slice-nodes.ensures.value (c.kept-kept.ensures ∙ kept-now c.self.inside c.self.invariant)
 
 pub returns-then-self-clause-refused : goal.returns-then-self-clause-refused
 returns-then-self-clause-refused c = λ rs ks r stands is may.
@@ -69,11 +69,11 @@ returns-in_err-gains-clause-refused c = λ rs ks r stands is may.
     let has_room = c.if-self.false in
     passed_on (λ f. AddedTo old old rs ks r (Err f)) c.from_residual-in_err-gains.result _ fault p.1 p.2
     (fault-answered a c.self.invariant old parents n c.args.id c.self.view_is
-    (entry-seen c.self.inside c.self.invariant c.args.self.now c.self.view_is c.args.parents.now c.requires c.deref.result.now c.args.id
-    (record { 0 = 0 }) (entry_of 0 c.in_ok-node.node) c.deref.ensures.value (c.in_ok-node.ensures 0)) (λ e. omega arith) fault
+    (entry-seen c.self.inside c.self.invariant c.args.self.now c.self.view_is c.args.parents.now c.requires c.as_slice-nodes.result.now c.args.id
+    (record { 0 = 0 }) (entry_of 0 c.in_ok-node.node) c.as_slice-nodes.ensures.value (c.in_ok-node.ensures 0)) (λ e. omega arith) fault
     (long-told (seen a) parents n.id (length n.path.pairs) (found-all a c.self.invariant) fault
-    (long-seen c.self.inside c.self.invariant c.args.self.now c.self.view_is c.args.parents.now c.requires c.deref-2.result.now
-    c.kept-kept.result.now c.deref-2.ensures.value (c.kept-kept.ensures ∙ kept-now c.self.inside c.self.invariant) fault
+    (long-seen c.self.inside c.self.invariant c.args.self.now c.self.view_is c.args.parents.now c.requires c.as_slice-nodes.result.now
+    c.kept-kept.result.now c.as_slice-nodes.ensures.value (c.kept-kept.ensures ∙ kept-now c.self.inside c.self.invariant) fault
     c.in_err-gains.ensures.long)) rs ks r stands is may)
 
 pub returns-in_err-check_path-clause-refused : goal.returns-in_err-check_path-clause-refused
@@ -87,11 +87,11 @@ returns-in_err-check_path-clause-refused c = λ rs ks r stands is may.
     let has_room = c.if-self.false in
     passed_on (λ f. AddedTo old old rs ks r (Err f)) c.from_residual-in_err-check_path.result _ fault p.1 p.2
     (fault-answered a c.self.invariant old parents n c.args.id c.self.view_is
-    (entry-seen c.self.inside c.self.invariant c.args.self.now c.self.view_is c.args.parents.now c.requires c.deref.result.now c.args.id
-    (record { 0 = 0 }) (entry_of 0 c.in_ok-node.node) c.deref.ensures.value (c.in_ok-node.ensures 0)) (λ e. omega arith) fault
+    (entry-seen c.self.inside c.self.invariant c.args.self.now c.self.view_is c.args.parents.now c.requires c.as_slice-nodes.result.now c.args.id
+    (record { 0 = 0 }) (entry_of 0 c.in_ok-node.node) c.as_slice-nodes.ensures.value (c.in_ok-node.ensures 0)) (λ e. omega arith) fault
     (own-told (seen a) parents n.id (length n.path.pairs) (found-all a c.self.invariant) fault
-    (none-seen c.self.inside c.self.invariant c.args.self.now c.self.view_is c.args.parents.now c.requires c.deref-2.result.now
-    c.kept-kept.result.now c.deref-2.ensures.value (c.kept-kept.ensures ∙ kept-now c.self.inside c.self.invariant)
+    (none-seen c.self.inside c.self.invariant c.args.self.now c.self.view_is c.args.parents.now c.requires c.as_slice-nodes.result.now
+    c.kept-kept.result.now c.as_slice-nodes.ensures.value (c.kept-kept.ensures ∙ kept-now c.self.inside c.self.invariant)
     c.in_ok-gains.ensures.long) c.in_err-check_path.ensures) rs ks r stands is may)
 
 pub returns-clause-room : goal.returns-clause-room
@@ -105,14 +105,14 @@ returns-clause-room c =
 
 pub returns-clause-node : goal.returns-clause-node
 returns-clause-node c = λ place.
-    entry-seen c.self.inside c.self.invariant c.args.self.now c.self.view_is c.args.parents.now c.requires c.deref.result.now c.args.id
-    (record { 0 = place }) (entry_of place c.in_ok-node.node) c.deref.ensures.value (c.in_ok-node.ensures place)
+    entry-seen c.self.inside c.self.invariant c.args.self.now c.self.view_is c.args.parents.now c.requires c.as_slice-nodes.result.now c.args.id
+    (record { 0 = place }) (entry_of place c.in_ok-node.node) c.as_slice-nodes.ensures.value (c.in_ok-node.ensures place)
 
 pub returns-clause-gains : goal.returns-clause-gains
 returns-clause-gains c =
     let a = c.self.inside in
-    gains-seen a c.self.invariant c.args.self.now c.self.view_is c.args.parents.now c.requires c.deref-2.result.now c.kept-kept.result.now
-    c.deref-2.ensures.value (c.kept-kept.ensures ∙ kept-now a c.self.invariant) c.in_ok-gains.gains.items c.in_ok-gains.ensures.gains
+    gains-seen a c.self.invariant c.args.self.now c.self.view_is c.args.parents.now c.requires c.as_slice-nodes.result.now c.kept-kept.result.now
+    c.as_slice-nodes.ensures.value (c.kept-kept.ensures ∙ kept-now a c.self.invariant) c.in_ok-gains.gains.items c.in_ok-gains.ensures.gains
     ∙ ap (all_gains (seen a) c.args.parents.now) (sym (kept-slots a c.self.invariant))
     ∙ ap (λ (t : Table). all_gains t c.args.parents.now (map (λ e. e.slot) t.entries)) c.self.view_is
 
@@ -122,5 +122,5 @@ returns-clause-short c =
     let n = c.in_ok-node.node in
     subst (λ (t : Table). too_long t c.args.parents.now ≡ None) c.self.view_is
     (short-told (seen a) c.args.parents.now n.id (length n.path.pairs) (found-all a c.self.invariant)
-    (none-seen a c.self.invariant c.args.self.now c.self.view_is c.args.parents.now c.requires c.deref-2.result.now c.kept-kept.result.now
-    c.deref-2.ensures.value (c.kept-kept.ensures ∙ kept-now a c.self.invariant) c.in_ok-gains.ensures.long))
+    (none-seen a c.self.invariant c.args.self.now c.self.view_is c.args.parents.now c.requires c.as_slice-nodes.result.now c.kept-kept.result.now
+    c.as_slice-nodes.ensures.value (c.kept-kept.ensures ∙ kept-now a c.self.invariant) c.in_ok-gains.ensures.long))

@@ -32,9 +32,9 @@ pub returns-clause-stands : goal.returns-clause-stands
 returns-clause-stands c =
     let n = c.root_node.result in
     let r = c.root_node.ensures in
-    let one : c.push.new.self.items ≡ n ∷ [] = c.in_ok-push.ensures.items ∙ ap (λ zs. zs ++ n ∷ []) c.new-nodes.ensures.items in
+    let one : c.push-3.new.self.items ≡ n ∷ [] = c.in_ok-push-3.ensures.items ∙ ap (λ zs. zs ++ n ∷ []) c.new-nodes.ensures.items in
     let two = c.in_ok-order.ensures.items in
-    let seen = seen-root c.push.new.self.items c.in_ok-order.order.items n one two in
+    let seen = seen-root c.push-3.new.self.items c.in_ok-order.order.items n one two in
     let table : List Entry → Table = λ es. record { limits = c.args.limits.now; counts = c.in_ok-counts.counts.items; known = 1; entries = es } in
     subst (λ es. Stands (table es) (root_record ∷ []) []) (sym seen)
     (stands-opening c.args.limits.now c.in_ok-counts.counts.items (entry_of 0 n) c.requires (c.in_ok-counts.ensures.items_if_clones_equal (λ y e. e))
@@ -49,9 +49,9 @@ invariant_of-result c =
     let n = c.root_node.result in
     let r = c.root_node.ensures in
     let limits = c.args.limits.now in
-    let one : c.push.new.self.items ≡ n ∷ [] = c.in_ok-push.ensures.items ∙ ap (λ zs. zs ++ n ∷ []) c.new-nodes.ensures.items in
+    let one : c.push-3.new.self.items ≡ n ∷ [] = c.in_ok-push-3.ensures.items ∙ ap (λ zs. zs ++ n ∷ []) c.new-nodes.ensures.items in
     let two = c.in_ok-order.ensures.items in
-    let view = seen-root c.push.new.self.items c.in_ok-order.order.items n one two in
+    let view = seen-root c.push-3.new.self.items c.in_ok-order.order.items n one two in
     let long = ap length one in
     let listed = ap length two in
     let zeros = c.in_ok-counts.ensures.items_if_clones_equal (λ y e. e) in
@@ -66,8 +66,8 @@ invariant_of-result c =
       used = c.in_ok-order.ensures.used;
       all = omega arith;
       few = omega arith;
-      placed = subst (λ ss. list_all (λ (s : Slot). ltb s.0 (length c.push.new.self.items)) ss ≡ true) (sym two)
-          (and_from (ltb 0 (length c.push.new.self.items)) true (lt-ltb 0 (length c.push.new.self.items) (omega arith)) refl);
+      placed = subst (λ ss. list_all (λ (s : Slot). ltb s.0 (length c.push-3.new.self.items)) ss ≡ true) (sym two)
+          (and_from (ltb 0 (length c.push-3.new.self.items)) true (lt-ltb 0 (length c.push-3.new.self.items) (omega arith)) refl);
       distinct = subst AreDistinct (sym two) (refl, tt);
       in_order = subst (λ es. arrive_in_order es ≡ true) (sym view) refl;
       arrived = subst (λ es. list_all (λ (e : Entry). ltb e.arrival 1) es ≡ true) (sym view)
@@ -98,11 +98,11 @@ invariant_of-result c =
           (and_from (is_counted c.in_ok-counts.counts.items n.id) true
           (subst (λ z. is_counted c.in_ok-counts.counts.items z ≡ true) (sym r.id) (le-leb 0 (get_or c.in_ok-counts.counts.items 0 0) (omega arith))) refl);
       once = subst (λ (es : List Entry). AllDiffer (map (λ (e : Entry). e.id) es)) (sym view) (refl, tt);
-      times = (let one_time = ap length (c.in_ok-push-3.ensures.items ∙ ap (λ ts. ts ++ 0 ∷ []) c.new-since.ensures.items) in omega arith);
-      since = subst (λ (es : List Entry). list_all (λ (e : Entry). list_all (λ (s : Slot). leb (get_or c.push-3.new.self.items s.0 0) e.arrival) e.stand_ins) es
+      times = (let one_time = ap length (c.in_ok-push.ensures.items ∙ ap (λ ts. ts ++ 0 ∷ []) c.new-since.ensures.items) in omega arith);
+      since = subst (λ (es : List Entry). list_all (λ (e : Entry). list_all (λ (s : Slot). leb (get_or c.push.new.self.items s.0 0) e.arrival) e.stand_ins) es
           ≡ true) (sym view)
-          (and_from (list_all (λ (s : Slot). leb (get_or c.push-3.new.self.items s.0 0) n.arrival) n.stand_ins.items) true
-          (ap (list_all (λ (s : Slot). leb (get_or c.push-3.new.self.items s.0 0) n.arrival)) r.stand_ins) refl);
+          (and_from (list_all (λ (s : Slot). leb (get_or c.push.new.self.items s.0 0) n.arrival) n.stand_ins.items) true
+          (ap (list_all (λ (s : Slot). leb (get_or c.push.new.self.items s.0 0) n.arrival)) r.stand_ins) refl);
       indexed = λ x.
           c.in_ok-put.ensures.put x
           ∙ ap (λ sites. cond (same_id x root) (Some (record { 0 = 0 })) (slot_of_state sites x)) c.new-slots.ensures
