@@ -270,15 +270,9 @@ class Build:
                 return
             if self.running and (is_alone or free_memory() < ROOM):
                 continue
-            # (the first gets the processors that no other crate waits for, and what holds up the end two in any case)
-            least = 2 if self.holds_up(name) and free_memory() >= 2 * ROOM else 1
-            jobs = 1 if is_alone else max(least, min(4, idle - (len(ready) - at - 1)))
+            # (the first gets the processors that no other crate waits for)
+            jobs = 1 if is_alone else max(1, min(4, idle - (len(ready) - at - 1)))
             self.start(self.crates[name], jobs, is_alone)
-
-    def holds_up(self, name):
-        """Whether the way from this crate's start to the end is as long as all that is left, by so many side by side."""
-        left = [*self.todo, *(it.crate.name for it in self.running), self.program]
-        return self.width > 1 and self.longest[name] * self.width >= sum(self.crates[it].seconds for it in left)
 
     def start(self, crate, jobs, is_alone):
         self.todo.remove(crate.name)
