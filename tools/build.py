@@ -5,7 +5,8 @@ and built first.
 usage: tools/build.py PROGRAM [--unproved] [WORD ..]
 
 `./tardis` and `./tardisd` call it. The crates below the program are proved side by side: as many as there are processors
-and memory for, each once those that it stands on are there, and first those that hold up most of the others.
+and memory for, each once those that it stands on are there, and first those that hold up the others longest, by what each
+took once (tools/seconds.txt). A crate on which so much waits that processors would be idle gets several of them.
 
 Each is proved from nothing by the toolchain's `rattle`, as the merge gate does it: over the statements of the crates below,
 whose proofs aren't loaded again. Its own statements are kept in its folder out/statements/, beside a sum of all that they
@@ -32,6 +33,10 @@ PARTS = ("src", "specs", "proofs")
 STOPPED = 70
 # What a check of one crate is likely to take of memory, in bytes.
 ROOM = 3_000_000_000
+# What a check takes before its first proof, in seconds of a processor.
+LOADING = 7
+# How many processors the proof of one crate has work for.
+JOBS = 4
 # How long nothing is told at most, in seconds.
 SILENCE = 60
 # How long a run that isn't proved may take, in seconds.
@@ -96,13 +101,14 @@ class Crate:
     """A crate of the repository: the crates of the repository that it stands on, the toolchain's that it uses, all below it,
     when its text last changed, and how long its proof takes, roughly, in seconds of one quiet processor (`seconds`)."""
 
-    def __init__(self, name, deps, of_kit):
-        self.name, self.deps, self.of_kit, self.below = name, deps, of_kit, []
+    def __init__(self, name, deps, of_kit, measured):
+        self.name, self.deps, self.of_kit, self.below, self.measured = name, deps, of_kit, [], measured
         self.folder = os.path.join(TOP, "crates", name)
         self.is_program = os.path.isfile(os.path.join(self.folder, "src/main.rt"))
         self.root = "src/main.rt" if self.is_program else "src/lib.rt"
         self.home = os.path.join(self.folder, "out/statements")
-        self.rlib, self.stamp = os.path.join(self.home, f"{name}.rlib"), os.path.join(self.home, "stamp")
+        self.rlib = os.path.join(self.home, f"{name}.rlib")
+        self.stamp, self.took = os.path.join(self.home, "stamp"), os.path.join(self.home, "seconds")
         walked = [os.path.join(at, it) for part in PARTS for at, _, found in os.walk(os.path.join(self.folder, part)) for it in found]
         self.files = sorted(walked)
         self.changed = max(map(os.path.getmtime, self.files), default=0)
@@ -110,8 +116,12 @@ class Crate:
 
     @property
     def seconds(self):
-        """By the bytes of its code, and of all code below, whose contracts are loaded: a line through forty crates."""
-        return max(5, self.code / 600 + sum(it.code for it in self.below) / 15_000)
+        """By what it took once, with the bytes of code that it had; or by the bytes of its code, and of all code below, whose
+        contracts are loaded: a line through forty crates."""
+        if self.measured:
+            seconds, code = self.measured
+            return LOADING + max(1, seconds - LOADING) * self.code / code
+        return max(LOADING, self.code / 600 + sum(it.code for it in self.below) / 15_000)
 
     def sum_up(self, version):
         """Sums up all that its statements are made from: its text, the toolchain, and the very statements of those below."""
@@ -146,8 +156,18 @@ class Crate:
         return False
 
 
+def measured_seconds():
+    """What crates took once: the seconds of a processor, and the bytes of code that they had then."""
+    with contextlib.suppress(OSError):
+        with open(os.path.join(TOP, "tools", "seconds.txt"), encoding="utf-8") as file:
+            lines = [line.partition("#")[0].split() for line in file]
+        return {it[0]: (int(it[1]), int(it[2])) for it in lines if it}
+    return {}
+
+
 def crates_below(program):
     """The program's crate and those below it, each behind those that it stands on."""
+    measured = measured_seconds()
     with open(os.path.join(TOP, "crates.txt"), encoding="utf-8") as file:
         told = [line.partition("#")[0].partition(":") for line in file]
     lines = {name.split()[0]: deps.split() for name, colon, deps in told if colon}
@@ -158,7 +178,7 @@ def crates_below(program):
             deps = [it for it in lines[name] if it in lines]
             for it in deps:
                 visit(it)
-            crate = found[name] = Crate(name, deps, [it for it in lines[name] if it not in lines])
+            crate = found[name] = Crate(name, deps, [it for it in lines[name] if it not in lines], measured.get(name))
             crate.below = [it for it in found.values() if any(it is found[dep] or it in found[dep].below for dep in deps)]
 
     visit(program)
@@ -178,17 +198,33 @@ def free_memory():
         return next(1024 * int(line.split()[1]) for line in file if line.startswith("MemAvailable"))
 
 
-def time_left(crates, todo, lanes):
-    """The seconds that these crates take, so many side by side, each once those below are there, the longest way first."""
+def clock(seconds, jobs):
+    """The seconds by the clock of a proof that takes so many of one processor, by so many, which do more work together than one."""
+    return LOADING + max(0, seconds - LOADING) * (1 + 0.2 * (jobs - 1)) / jobs
+
+
+def jobs_for(crate, crates, unfinished, width):
+    """How many processors the crate gets: one, and those that would be idle until it is proved, as what doesn't stand on it keeps
+    the others busy for less time."""
+    others = sum(crates[it].seconds for it in unfinished if it != crate.name and crate not in crates[it].below)
+    idle = (width - 1) * crate.seconds - others
+    return max(1, min(JOBS, 1 + int(idle // crate.seconds)))
+
+
+def time_left(crates, todo, width):
+    """The seconds that these crates take, side by side, each once those below are there, the longest way first."""
     longest, done, at, running = behind(crates), set(crates) - set(todo), 0.0, {}
     todo = set(todo)
     while todo or running:
-        ready = sorted((it for it in todo if done.issuperset(crates[it].deps)), key=lambda it: -longest[it])
-        for name in ready[: lanes - len(running)]:
+        for name in sorted((it for it in todo if done.issuperset(crates[it].deps)), key=lambda it: -longest[it]):
+            idle = width - sum(jobs for _, jobs in running.values())
+            if idle < 1:
+                break
+            jobs = min(idle, jobs_for(crates[name], crates, [*todo, *running], width))
             todo.remove(name)
-            running[name] = at + crates[name].seconds
-        name = min(running, key=running.get)
-        at = running.pop(name)
+            running[name] = (at + clock(crates[name].seconds, jobs), jobs)
+        name = min(running, key=lambda it: running[it][0])
+        at, _ = running.pop(name)
         done.add(name)
     return at
 
@@ -212,12 +248,24 @@ class Guard:
 
 
 class Proof:
-    """The proof of one crate that is at work."""
+    """The proof of one crate that is at work, by so many processors at once."""
 
-    def __init__(self, crate, total, words, log, guard, is_alone):
-        self.crate, self.total, self.log, self.is_alone = crate, total, log, is_alone
+    def __init__(self, crate, jobs, total, words, log, guard, is_alone):
+        self.crate, self.jobs, self.total, self.log, self.is_alone = crate, jobs, total, log, is_alone
         with open(log, "wb") as file:
             self.process = guard.start(words, crate.folder, file)
+
+    def status(self):
+        """The status with which it ended, or None; what it took is noted beside the crate's statements."""
+        pid, status, used = os.wait4(self.process.pid, os.WNOHANG)
+        if not pid:
+            return None
+        # (so that the process isn't waited for twice)
+        self.process.returncode = -os.WTERMSIG(status) if os.WIFSIGNALED(status) else os.WEXITSTATUS(status)
+        if not self.process.returncode:
+            with open(self.crate.took, "w", encoding="ascii") as file:
+                file.write(f"{round(used.ru_utime + used.ru_stime)} {self.crate.code}\n")
+        return self.process.returncode
 
 
 class Build:
@@ -255,7 +303,7 @@ class Build:
         while self.todo or self.running:
             self.start_ready()
             time.sleep(0.2)
-            for proof in [it for it in self.running if it.process.poll() is not None]:
+            for proof in [it for it in self.running if it.status() is not None]:
                 self.running.remove(proof)
                 self.finish(proof)
             if time.monotonic() - self.told > SILENCE:
@@ -264,22 +312,21 @@ class Build:
     def start_ready(self):
         lacking = {*self.todo, *(it.crate.name for it in self.running)}
         ready = sorted((it for it in self.todo if lacking.isdisjoint(self.crates[it].deps)), key=lambda it: -self.longest[it])
-        for at, name in enumerate(ready):
-            idle, is_alone = self.width - len(self.running), name in self.alone
-            if any(it.is_alone for it in self.running) or not idle:
+        for name in ready:
+            idle, is_alone = self.width - sum(it.jobs for it in self.running), name in self.alone
+            if any(it.is_alone for it in self.running) or idle < 1:
                 return
             if self.running and (is_alone or free_memory() < ROOM):
                 continue
-            # (the first gets the processors that no other crate waits for)
-            jobs = 1 if is_alone else max(1, min(4, idle - (len(ready) - at - 1)))
-            self.start(self.crates[name], jobs, is_alone)
+            jobs = jobs_for(self.crates[name], self.crates, [*lacking, self.program], self.width)
+            self.start(self.crates[name], 1 if is_alone else min(idle, jobs), is_alone)
 
     def start(self, crate, jobs, is_alone):
         self.todo.remove(crate.name)
         shutil.rmtree(crate.home, ignore_errors=True)
         os.makedirs(crate.home)
         log, words = os.path.join(self.logs, f"{crate.name}.log"), self.toolchain.build(crate, jobs, crate.rlib)
-        self.running.append(Proof(crate, crate.sum_up(self.toolchain.version), words, log, self.guard, is_alone))
+        self.running.append(Proof(crate, jobs, crate.sum_up(self.toolchain.version), words, log, self.guard, is_alone))
 
     def finish(self, proof):
         crate, status = proof.crate, proof.process.returncode
@@ -344,10 +391,13 @@ def make(program, crates, toolchain, guard, folder):
         work.run()
     say(f"[{len(crates) - 1} of {len(crates)}] ({program}: its last crate is proved, and the program built)")
     log = os.path.join(folder, f"{program}.log")
-    for words in (toolchain.build(crate, work.width, made), toolchain.link(made, linked)):
-        with open(log, "ab") as file:
-            if guard.start(words, crate.folder, file).wait():
-                failed(program, log)
+    os.makedirs(crate.home, exist_ok=True)
+    proof = Proof(crate, work.width, "", toolchain.build(crate, work.width, made), log, guard, True)
+    while proof.status() is None:
+        time.sleep(0.2)
+    with open(log, "ab") as file:
+        if proof.process.returncode or guard.start(toolchain.link(made, linked), crate.folder, file).wait():
+            failed(program, log)
     # (in one step, so that nobody runs half a program; and text that changed meanwhile is newer)
     target = os.path.join(crate.folder, "out", program)
     os.makedirs(os.path.dirname(target), exist_ok=True)

@@ -174,6 +174,21 @@ class Builds(unittest.TestCase):
         self.assertIn("[1 of 6] base, about a minute more", told)
         self.assertIn("[5 of 6] top", told)
 
+    def test_what_took_longest_begins_first_and_gets_the_idle_processors(self):
+        # (each has four bytes of code or so; far holds up nobody, and is the longest for all that)
+        self.write("repository/tools/seconds.txt", "# seconds, bytes\nbase 90 4\nfar 300 3\nleft 20 4\nright 200 5\ntop 10 3\nprog 10 4\n")
+        status, _, told = self.ran()
+        self.assertEqual(status, 3, told)
+        noted = self.notes()
+        begun = [it[1] for it in noted if it[0] == "build"]
+        self.assertEqual(begun[0], "base")
+        self.assertEqual(begun[1:3], ["far", "right"])
+        # (nothing else can be proved beside it)
+        self.assertEqual(noted[0][2:], ["jobs", str(min(4, len(os.sched_getaffinity(0))))])
+        # (what each took is noted, with the bytes of its code)
+        with open(os.path.join(self.top, "crates/right/out/statements/seconds"), encoding="ascii") as file:
+            self.assertEqual(file.read().split()[1], "5")
+
     def test_what_is_there_is_kept(self):
         self.ran()
         self.notes()
