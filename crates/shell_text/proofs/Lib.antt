@@ -2,8 +2,6 @@
 pub mod RequestsRead
 pub mod RepliesRead
 pub mod Lengths
-pub mod Printed
-pub mod Rows
 pub mod Arms
 pub mod LineTexts
 pub mod Passings

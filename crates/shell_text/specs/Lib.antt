@@ -6,5 +6,4 @@ pub mod Answers
 pub mod RequestTexts
 pub mod ReplyTexts
 pub mod Laws
-pub mod Rows
 pub mod Passing

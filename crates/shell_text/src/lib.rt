@@ -15,7 +15,7 @@ mod request_fields;
 mod request_lines;
 
 pub use line_field_readers::{ids, key_alone, key_into, list_alone, value_into};
-pub use line_laws::{lines_are_read, lines_fit_their_room, lines_have_one_reading};
+pub use line_laws::{lines_fit_their_room, lines_have_one_reading};
 pub use line_readers::read_line;
 pub use line_word_readers::alone;
 pub use list_lines::id_follows;

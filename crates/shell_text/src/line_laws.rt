@@ -1,46 +1,12 @@
-//! The laws of lines. Each function is empty, and its contract is laws or worked lines.
+//! The laws of lines. Each function is empty, and its contract is laws. Those that no program needs are in `reply_text`.
 
-ghost use Rattle.shell_text.specs.Laws.{RepliesHaveOneLine, ReplyLinesEnd, ReplyLinesFit, RequestLinesEnd, RequestLinesFit, RequestsHaveOneLine};
-ghost use Rattle.shell_text.specs.Rows.{CommitLineIsRead, CommittedLineIsRead, EmptyAfterIsNoLine, GetForLineIsRead, HexOfPlainIsNoLine};
-ghost use Rattle.shell_text.specs.Rows.{LeadingZeroIsNoLine, LongNumberIsNoLine, MergeLineIsRead, OpenLineIsRead, OtherOrderIsNoLine, PullLineIsRead};
-ghost use Rattle.shell_text.specs.Rows.{PutLineIsRead, RaiseAutoLineIsRead, RefusedLineIsRead, SettleLineIsRead, SpaceBehindIsNoLine};
-ghost use Rattle.shell_text.specs.Rows.{StatisticsLineIsRead, TwoSpacesAreNoLine, UpperCaseIsNoLine};
+ghost use Rattle.shell_text.specs.Laws.{RepliesHaveOneLine, ReplyLinesFit, RequestLinesFit, RequestsHaveOneLine};
 
 /// Each request of an actor and each reply has one line, no two have the same, and a line is read as the one request, or
 /// the one reply, of which it is the line.
 pub fn lines_have_one_reading()
     ensures request { RequestsHaveOneLine }
     ensures reply { RepliesHaveOneLine }
-{}
-
-/// A line is printed characters and spaces alone, and the line feed behind it tells where it ends: with it, no line is a
-/// front of another (without it `1 open` is a front of `1 open follow`).
-pub fn lines_end_at_their_line_feed()
-    ensures request { RequestLinesEnd }
-    ensures reply { ReplyLinesEnd }
-{}
-
-/// Worked lines.
-pub fn lines_are_read()
-    ensures open { OpenLineIsRead }
-    ensures put { PutLineIsRead }
-    ensures commit { CommitLineIsRead }
-    ensures merge { MergeLineIsRead }
-    ensures get_for { GetForLineIsRead }
-    ensures raise_auto { RaiseAutoLineIsRead }
-    ensures pull { PullLineIsRead }
-    ensures settle { SettleLineIsRead }
-    ensures leading_zero { LeadingZeroIsNoLine }
-    ensures two_spaces { TwoSpacesAreNoLine }
-    ensures space_behind { SpaceBehindIsNoLine }
-    ensures other_order { OtherOrderIsNoLine }
-    ensures hex_of_plain { HexOfPlainIsNoLine }
-    ensures upper_case { UpperCaseIsNoLine }
-    ensures empty_after { EmptyAfterIsNoLine }
-    ensures long_number { LongNumberIsNoLine }
-    ensures committed { CommittedLineIsRead }
-    ensures statistics { StatisticsLineIsRead }
-    ensures refused { RefusedLineIsRead }
 {}
 
 /// The line of a request or of a reply that fits a frame has room in a [`LineBuf`](crate::LineBuf).

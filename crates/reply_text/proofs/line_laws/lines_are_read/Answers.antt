@@ -1,7 +1,7 @@
-use Rattle.shell_text.proofs.Rows.{row-open, row-put, row-commit, row-merge, row-get_for, row-raise_auto, row-pull, row-settle, row-leading_zero}
-use Rattle.shell_text.proofs.Rows.{row-two_spaces, row-space_behind, row-other_order, row-hex_of_plain, row-upper_case, row-empty_after, row-long_number}
-use Rattle.shell_text.proofs.Rows.{row-committed, row-statistics, row-refused}
-use Rattle.shell_text.proofs.line_laws.lines_are_read.Goals as goal
+use Rattle.reply_text.proofs.Rows.{row-open, row-put, row-commit, row-merge, row-get_for, row-raise_auto, row-pull, row-settle, row-leading_zero}
+use Rattle.reply_text.proofs.Rows.{row-two_spaces, row-space_behind, row-other_order, row-hex_of_plain, row-upper_case, row-empty_after, row-long_number}
+use Rattle.reply_text.proofs.Rows.{row-committed, row-statistics, row-refused}
+use Rattle.reply_text.proofs.line_laws.lines_are_read.Goals as goal
 
 pub returns-clause-open : goal.returns-clause-open
 returns-clause-open c = row-open

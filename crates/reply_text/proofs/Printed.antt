@@ -38,7 +38,7 @@ use Rattle.text_words.proofs.IdsPrinted.{number-printed, id-printed, printed-app
 use Rattle.text_words.proofs.WordsRead.{byte-words, hex-words}
 use Rattle.shell_text.specs.RequestLines.{name_if, names_word, flags_word, after_words, request_words, request_line}
 use Rattle.shell_text.specs.ReplyLines.{constraint_word, refusal_words, site_line_word, pair_word, counted_words, reply_words, reply_line}
-use Rattle.shell_text.specs.Laws.{EndsAtItsLineFeed, RequestLinesEnd, ReplyLinesEnd}
+use Rattle.reply_text.specs.Laws.{EndsAtItsLineFeed, RequestLinesEnd, ReplyLinesEnd}
 use Rattle.shell_text.specs.Spelled.{is_asked}
 
 -- ---- lines

@@ -1,5 +1,5 @@
-use Rattle.shell_text.proofs.Printed.{request-lines-end, reply-lines-end}
-use Rattle.shell_text.proofs.line_laws.lines_end_at_their_line_feed.Goals as goal
+use Rattle.reply_text.proofs.Printed.{request-lines-end, reply-lines-end}
+use Rattle.reply_text.proofs.line_laws.lines_end_at_their_line_feed.Goals as goal
 
 pub returns-clause-request : goal.returns-clause-request
 returns-clause-request c = request-lines-end

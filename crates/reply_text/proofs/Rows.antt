@@ -2,9 +2,9 @@
 use Rattle.std.proofs.Common.{refl}
 use Rattle.std.specs.Fmt.{digits}
 use Rattle.hex.specs.Hex.{encode_with, decode_pairs}
-use Rattle.shell_text.specs.Rows.{OpenLineIsRead, PutLineIsRead, CommitLineIsRead, MergeLineIsRead, GetForLineIsRead, RaiseAutoLineIsRead, PullLineIsRead}
-use Rattle.shell_text.specs.Rows.{SettleLineIsRead, LeadingZeroIsNoLine, TwoSpacesAreNoLine, SpaceBehindIsNoLine, OtherOrderIsNoLine, HexOfPlainIsNoLine}
-use Rattle.shell_text.specs.Rows.{UpperCaseIsNoLine, EmptyAfterIsNoLine, LongNumberIsNoLine, CommittedLineIsRead, StatisticsLineIsRead, RefusedLineIsRead}
+use Rattle.reply_text.specs.Rows.{OpenLineIsRead, PutLineIsRead, CommitLineIsRead, MergeLineIsRead, GetForLineIsRead, RaiseAutoLineIsRead, PullLineIsRead}
+use Rattle.reply_text.specs.Rows.{SettleLineIsRead, LeadingZeroIsNoLine, TwoSpacesAreNoLine, SpaceBehindIsNoLine, OtherOrderIsNoLine, HexOfPlainIsNoLine}
+use Rattle.reply_text.specs.Rows.{UpperCaseIsNoLine, EmptyAfterIsNoLine, LongNumberIsNoLine, CommittedLineIsRead, StatisticsLineIsRead, RefusedLineIsRead}
 
 pub row-open : OpenLineIsRead
 unfolding digits encode_with decode_pairs
