@@ -12,9 +12,10 @@ use merge_rules::AutoEnd;
 use shell_text::{LineBuf, lines_fit_their_room, put_reply_line};
 use site_run::Gathered;
 use std::alloc::Global;
+use talk_bytes::write_reply;
 use tardis_base::{Key, NoMemory, Refusal, Reply, ReplyBuf, StateId};
 use text_words::Unread;
-use wire_talk::{talk_has_one_spelling, write_reply};
+use wire_talk::talk_has_one_spelling;
 
 /// The buffers for the lines of auto steps: one for the bytes of a refusal, one for a line.
 #[derive(Drop)]

@@ -3,8 +3,8 @@
 ghost use Rattle.std.specs.Prelude.{◌≡◌};
 ghost use Rattle.branch_export.specs.Readings.{IsJudged, CountsAs};
 
+use item_bytes::Reader;
 use tardis_base::key_follows;
-use wire_item::Reader;
 
 /// Whether the bytes are an export: their number, and so many entries in ascending order of their keys, and nothing else.
 ///

@@ -15,9 +15,9 @@ ghost use Rattle.branch_export.specs.Gathering.{Moves};
 
 use crate::gathering::{flush, make_room};
 use crate::writing::{LONGEST_ENTRY, write_entry};
+use item_bytes::{Reader, write_u32};
 use tardis_base::{MAX_WRITES, ReplyBuf};
 use tardis_io::{Sink, WriteFault};
-use wire_item::{Reader, write_u32};
 
 /// How many entries are put in one transaction, as many as it may write; the last one has the rest.
 const GROUP: u64 = MAX_WRITES as u64;

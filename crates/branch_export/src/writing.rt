@@ -18,11 +18,11 @@ ghost use Rattle.branch_export.specs.Gathering.{Moves, entry_bytes};
 use crate::exports::live_keys;
 use crate::faults::ExportFault;
 use crate::gathering::{flush, make_room};
+use item_bytes::{write_u8, write_u16, write_u64};
 use record_store::RecordStore;
 use std::alloc::Global;
 use tardis_base::{Found, Key, MAX_KEY, MAX_VALUE, ReplyBuf, Slot, StateId};
 use tardis_io::{Sink, WriteFault};
-use wire_item::{write_u8, write_u16, write_u64};
 
 /// Writes the export of a state: each key whose read there is a value, with the value, as `docs/EXPORT.md` says.
 ///

@@ -12,9 +12,9 @@ use disk_store::Disk;
 use frame_cut::event;
 use site_journal::{Journaled, Staged};
 use site_run::{Gathered, put_reply};
+use talk_bytes::write_reply;
 use tardis_base::{MAX_FRAMED, Machine, Refusal, Reply, ReplyBuf};
 use tardis_io::{Sink, WriteFault};
-use wire_talk::write_reply;
 
 /// What stopped a run in its midst. The disk is handed back.
 #[derive(Drop)]

@@ -15,6 +15,8 @@ mod of_disk_forms;
 #[cfg(test)]
 mod of_faults;
 #[cfg(test)]
+mod of_item_bytes;
+#[cfg(test)]
 mod of_log_groups;
 #[cfg(test)]
 mod of_log_text;
@@ -35,6 +37,8 @@ mod of_socket_links;
 #[cfg(test)]
 mod of_state_dag;
 #[cfg(test)]
+mod of_talk_bytes;
+#[cfg(test)]
 mod of_tardis_base;
 #[cfg(test)]
 mod of_tardis_io;
@@ -43,10 +47,6 @@ mod of_trail_log;
 #[cfg(test)]
 mod of_twin_stores;
 #[cfg(test)]
-mod of_wire_item;
-#[cfg(test)]
 mod of_wire_questions;
-#[cfg(test)]
-mod of_wire_talk;
 #[cfg(test)]
 mod streams;

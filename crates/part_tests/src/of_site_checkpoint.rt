@@ -1,11 +1,11 @@
 //! A checkpoint in memory takes parts that fit, and ends with floors that do: what no clause says, that memory suffices.
 
+use item_bytes::read_record;
 use site_checkpoint::{Checkpoint, ToldFloor};
 use std::alloc::Global;
 use std::hash::RandomState;
 use std::process::Abort;
 use tardis_base::{Limits, StateId};
-use wire_item::read_record;
 
 const LIMITS: Limits = Limits {
     sites: 3,

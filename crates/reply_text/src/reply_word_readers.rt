@@ -16,13 +16,14 @@ ghost use Rattle.wire_talk.specs.Valid.{are_first_ids, are_first_keys};
 
 use crate::refusal_word_readers::read_refusal;
 use crate::reply_list_readers::{children, first_ids, first_keys, lines_of_sites, parents, path};
+use item_bytes::read_batch;
 use shell_text::{alone, list_alone, value_into};
 use std::alloc::Global;
 use tardis_base::{
     KeyList, MAX_VALUE, NoMemory, PathList, ReadFault, Refusal, Reply, StateId, StateList, Value,
 };
 use text_words::{Words, read_hex};
-use wire_item::{read_batch, things_have_one_spelling};
+use wire_item::things_have_one_spelling;
 
 /// The answer for a reply that takes no memory.
 pub fn sure_reply(read: Option<Reply>) -> Result<Reply, ReadFault>

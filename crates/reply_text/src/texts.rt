@@ -10,8 +10,8 @@ ghost use Rattle.wire_talk.specs.Valid.{is_reply, is_request};
 use shell_text::{LineBuf, put_reply_line, put_request_line};
 use std::alloc::Global;
 use std::marker::Model;
+use talk_bytes::{write_reply, write_request};
 use tardis_base::{NoMemory, Reply, ReplyBuf, Request};
-use wire_talk::{write_reply, write_request};
 
 /// The bytes of a line, without a line feed.
 #[derive(Drop)]

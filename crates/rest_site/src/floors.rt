@@ -6,10 +6,10 @@ ghost use Rattle.wire_item.specs.Fronts.{times};
 ghost use Rattle.wire_item.specs.Takings.{Takes, Makes};
 ghost use Rattle.rest_site.specs.Takings.{told_floor_front, AreRead};
 
+use item_bytes::Reader;
 use site_checkpoint::ToldFloor;
 use std::alloc::Global;
 use tardis_base::{ListOf, MAX_SITES, NoMemory, pushed};
-use wire_item::Reader;
 
 /// The floors of all sites, in the order of their numbers.
 pub(crate) type Floors = ListOf<ToldFloor>;

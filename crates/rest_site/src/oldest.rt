@@ -9,10 +9,10 @@ ghost use Rattle.rest_site.specs.Ceilings.{earlier, ceilings_in, first_of};
 
 use crate::oldest_codes::OLDEST;
 use ceiling_book::CeilingBook;
+use item_bytes::write_u16;
 use session_core::SiteCore;
 use state_dag::StateDag;
 use tardis_base::ReplyBuf;
-use wire_item::write_u16;
 
 /// A ceiling: whose it is, and how many states had arrived before it.
 #[derive(Clone, Copy)]

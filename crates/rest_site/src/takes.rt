@@ -10,11 +10,11 @@ ghost use Rattle.rest_site.specs.Takings.{Leads};
 
 use crate::loading::Begin;
 use crate::things::{read_thing, take};
+use item_bytes::Reader;
 use session_core::SiteCore;
 use site_checkpoint::Checkpoint;
 use site_lives::Lives;
 use tardis_base::NoMemory;
-use wire_item::Reader;
 
 /// Takes back all that stands in the bytes; `false` where that can't be done.
 pub(crate) fn take_all(

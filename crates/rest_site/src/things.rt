@@ -18,13 +18,13 @@ ghost use Rattle.wire_item.specs.Takings.{Takes};
 
 use crate::floors::{Floors, read_floors};
 use crate::loading::{Begin, end, load_gone, load_line, load_state};
+use item_bytes::Reader;
 use session_core::SiteCore;
 use site_checkpoint::Checkpoint;
 use site_lives::thing_codes::{COLLECTION, END, GONE, LIFE, LINE, PROMISE, ROW, STATE, TOLD};
 use site_lives::{Lives, NewLife};
 use std::alloc::Global;
 use tardis_base::{Consent, NoMemory, Record, StateId};
-use wire_item::Reader;
 
 /// What lasted of a request; a row of states; or a part of a checkpoint, or its end.
 #[derive(Drop)]

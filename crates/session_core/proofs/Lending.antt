@@ -2,10 +2,10 @@
 use Rattle.std.proofs.Common.{ℕ, List, IsTrue, Option, Some, None, IfSome}
 use Rattle.plain_site.specs.Step.{is_sure}
 use Rattle.wire_talk.specs.Laws.{RequestsHaveOneSpelling}
-use Rattle.wire_talk.specs.Lent.{request_lent}
+use Rattle.talk_bytes.specs.Lent.{request_lent}
 use Rattle.wire_talk.specs.Spelled.{SpellsRequest}
-use Rattle.wire_talk.specs.declared.lent_requests.LentRequest.{LentRequest}
-use Rattle.wire_talk.specs.declared.lent_requests.LentRequest.TheVariants.{Begin, Get, Put, Delete, Commit}
+use Rattle.talk_bytes.specs.declared.lent_requests.LentRequest.{LentRequest}
+use Rattle.talk_bytes.specs.declared.lent_requests.LentRequest.TheVariants.{Begin, Get, Put, Delete, Commit}
 use Rattle.session_core.specs.Machine.{AsksFor}
 use Rattle.session_core.proofs.Asking.{asks-for}
 

@@ -19,7 +19,7 @@ ghost use Rattle.session_core.specs.Stands.{CoreStands, StandsForSite};
 ghost use Rattle.session_core.specs.Guards.{HasTxn};
 ghost use Rattle.plain_dag.specs.Entries.{entry_of};
 ghost use Rattle.merge_txn.specs.declared.Txn.{Txn};
-ghost use Rattle.wire_talk.specs.Lent.{request_lent};
+ghost use Rattle.talk_bytes.specs.Lent.{request_lent};
 ghost use Rattle.session_core.specs.Txns.{slot_read};
 ghost use Rattle.session_core.specs.Gives.{Gives};
 ghost use Rattle.session_core.specs.Machine.{AsksFor, SiteStands, GivesBytes, IsTold, opened_with, writing, Wrote};
@@ -32,14 +32,12 @@ use crate::transactions::NotedRead;
 use crate::{Parts, SiteCore};
 use merge_txn::{MergeTxn, Txn};
 use std::alloc::Global;
+use talk_bytes::{LentRequest, read_lent, read_request, write_begun, write_done, write_reply};
 use tardis_base::{
     Begin, EndFlags, Key, Machine, NoMemory, Over, ReadFault, Refusal, Reply, ReplyBuf, Request,
     StateList, Value, Write,
 };
-use wire_talk::{
-    LentRequest, read_lent, read_request, talk_has_one_spelling, write_begun, write_done,
-    write_reply,
-};
+use wire_talk::talk_has_one_spelling;
 
 /// The request that the bytes spell; None of other bytes, which are malformed.
 fn asked(alloc: Global, bytes: &[u8]) -> Result<Option<Request>, NoMemory>

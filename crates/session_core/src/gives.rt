@@ -12,10 +12,10 @@ ghost use Rattle.plain_site.specs.Answers.{found as reply_to};
 ghost use Rattle.session_core.specs.Commits.{commit_reply};
 
 use crate::commits::CommitEnd;
-use tardis_base::{Found, Refusal, ReplyBuf};
-use wire_talk::{
+use talk_bytes::{
     write_absent, write_committed, write_deleted, write_ended, write_refused, write_value_reply,
 };
+use tardis_base::{Found, Refusal, ReplyBuf};
 
 /// What was found; a value from the store's own bytes.
 pub fn give_found(what: Found<'_>, out: &mut ReplyBuf)

@@ -8,9 +8,9 @@ ghost use Rattle.session_serve.specs.Asking.{Asked};
 use crate::askers::Asks;
 use site_run::{Gathered, Responder, put_reply};
 use std::alloc::Global;
+use talk_bytes::write_reply;
 use tardis_base::{MAX_FRAMED, MAX_REQUEST, NoMemory, Refusal, Reply, ReplyBuf};
 use trail_log::Acted;
-use wire_talk::write_reply;
 
 /// Answers each body by the frame of the reply to its request.
 #[derive(Drop)]

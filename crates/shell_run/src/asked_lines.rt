@@ -11,8 +11,9 @@ use crate::laws::requests_fit_a_frame;
 use shell_text::{LineBuf, lines_have_one_reading, put_reply_line, read_line};
 use site_run::Gathered;
 use std::alloc::Global;
+use talk_bytes::write_request;
 use tardis_base::{ReadFault, ReplyBuf};
-use wire_talk::{talk_has_one_spelling, write_request};
+use wire_talk::talk_has_one_spelling;
 
 /// The actor of a line, and its request's spelling in `out`, whose bytes from before are gone.
 pub(crate) fn read_event(alloc: Global, line: &[u8], out: &mut ReplyBuf) -> Result<u16, ReadFault>

@@ -17,13 +17,14 @@ ghost use Rattle.wire_item.specs.Fronts.{Front, alone, both, made, only_if, time
 ghost use Rattle.wire_talk.specs.Valid.{are_counts, is_merge_of};
 
 use crate::line_word_readers::alone;
+use item_bytes::read_item;
 use std::alloc::Global;
 use tardis_base::{
     ByteList, CountList, Key, ListOf, MAX_KEY, MAX_SITES, MAX_VALUE, MergeOf, NoMemory, ReadFault,
     Request, StateId, StateList, Value, pushed,
 };
 use text_words::{Words, read_bytes, read_hex};
-use wire_item::{read_item, spellings_have_their_lengths, things_have_one_spelling};
+use wire_item::{spellings_have_their_lengths, things_have_one_spelling};
 
 /// The most bytes of an item.
 const MOST_ITEM: usize = 270_649;

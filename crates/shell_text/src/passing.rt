@@ -15,8 +15,8 @@ ghost use Rattle.wire_item.specs.Valid.{are_ascending_numbers};
 
 use crate::list_fields::is_parent_count;
 use crate::list_lines::id_follows;
+use item_bytes::Reader;
 use tardis_base::{MAX_SITES, MAX_WRITES, StateId, key_follows};
-use wire_item::Reader;
 
 /// What is written to a key.
 fn pass_write(reader: &mut Reader) -> bool

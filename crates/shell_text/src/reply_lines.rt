@@ -19,8 +19,8 @@ use crate::list_fields::{
 };
 use crate::passing::pass_batch;
 use crate::refusal_lines::put_refusal;
+use item_bytes::Reader;
 use text_words::{LineBuf, Unread};
-use wire_item::Reader;
 use wire_talk::reply_codes::{self, BATCH};
 
 /// Writes the line of the reply that the bytes spell, and nothing where they spell none. What the buffer held is forgotten.

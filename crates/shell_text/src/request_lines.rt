@@ -16,8 +16,8 @@ ghost use Rattle.wire_talk.specs.declared.request_codes.TheConstants.{CEILING, D
 use crate::field_words::{put_id, put_key, put_key_and_id, put_key_and_value, put_u16};
 use crate::passing::pass_item;
 use crate::request_fields::{put_begin, put_commit, put_conflicts, put_merge, put_open, put_pull};
+use item_bytes::Reader;
 use text_words::{LineBuf, Unread};
-use wire_item::Reader;
 use wire_talk::request_codes::{self, DELIVER};
 
 /// Writes the line of the actor's request that the bytes spell, and the actor and `malformed` where they spell none. What

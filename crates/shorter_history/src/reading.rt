@@ -1,10 +1,10 @@
 //! What is read of a log's things for a shorter history: which states arrived, below which, and what those with several parents write.
 
 use crate::past::Past;
+use item_bytes::Reader;
 use site_lives::thing_codes::{COLLECTION, END, GONE, LIFE, LINE, PROMISE, ROW, STATE, TOLD};
 use std::alloc::Global;
 use tardis_base::{MAX_PARENTS, NoMemory, StateId};
-use wire_item::Reader;
 
 /// How many bytes a life has.
 const LIFE_BYTES: usize = 16;

@@ -16,11 +16,11 @@ use rest_site::RestSite;
 use session_core::SiteCore;
 use site_questions::answer;
 use std::alloc::Global;
+use talk_bytes::write_refused;
 use tardis_base::{NoMemory, Refusal, ReplyBuf};
 use wire_lives::life_codes::LIFE;
 use wire_lives::write_introduction;
 use wire_questions::{answers_fit_a_frame, read_question, write_answer};
-use wire_talk::write_refused;
 
 /// Answers a body that doesn't come in through the door. It changes nothing of the site.
 pub fn answer_at(

@@ -17,13 +17,13 @@ ghost use Rattle.site_exchange.specs.Stands.{BookStands};
 ghost use Rattle.site_exchange.specs.News.{is_news, news_for, left_of, GivenIn};
 
 use ceiling_book::CeilingBook;
+use item_bytes::key_write_len;
 use record_store::RecordStore;
 use state_dag::StateDag;
 use std::alloc::Global;
 use tardis_base::{
     Batch, Consent, ConsentList, Key, MAX_NEWS, NoMemory, Record, RecordList, Slot, Write,
 };
-use wire_item::key_write_len;
 
 /// The news for whoever has these counts, one for each site, as far as it fits a batch, and all consents.
 ///

@@ -9,10 +9,11 @@ ghost use Rattle.site_peers.specs.Asking.{items_of, delivery, any_applied};
 ghost use Rattle.site_peers.specs.Turns.{AnswersFrom};
 
 use crate::asks::{ask, either, is_applied};
+use item_bytes::{write_consent, write_record};
 use rest_machine::Settling;
 use std::marker::Model;
 use tardis_base::{Batch, Consent, Record, ReplyBuf};
-use wire_item::{spellings_have_their_lengths, write_consent, write_record};
+use wire_item::spellings_have_their_lengths;
 use wire_talk::request_codes::DELIVER;
 
 /// At most so many items of one peer are delivered in a turn.

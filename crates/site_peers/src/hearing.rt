@@ -10,8 +10,9 @@ use crate::deliveries::Delivery;
 use crate::questions::Question;
 use frame_cut::Cut;
 use std::alloc::Global;
+use talk_bytes::read_reply;
 use tardis_base::{Batch, MAX_NEWS, ReadFault, Reply};
-use wire_talk::{read_reply, talk_has_one_spelling};
+use wire_talk::talk_has_one_spelling;
 
 /// The most bytes of a record.
 pub(crate) const LONGEST_RECORD: usize = 270_648;

@@ -13,10 +13,11 @@ ghost use Rattle.site_sync.specs.Delivering.{Delivers};
 use crate::ends::SyncEnd;
 use crate::tallies::Tally;
 use dag_lock::{DagLock, Pass};
+use item_bytes::{write_consent, write_record};
 use std::sync::Wait;
 use tardis_base::{Batch, Consent, Machine, Record, ReplyBuf};
 use trail_log::Acted;
-use wire_item::{spellings_have_their_lengths, write_consent, write_record};
+use wire_item::spellings_have_their_lengths;
 use wire_talk::request_codes::DELIVER;
 
 /// The actor of all that isn't asked by a session.

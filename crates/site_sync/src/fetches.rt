@@ -10,9 +10,10 @@ ghost use Rattle.site_sync.specs.Fetching.{Gave, Fetched, IsAnswer};
 use crate::ends::SyncEnd;
 use frame_cut::{Cut, FrameCutter};
 use std::alloc::Global;
+use talk_bytes::read_reply;
 use tardis_base::{Batch, ReadFault, Reply};
 use tardis_io::{Duplex, Failed, WriteFault, write_all};
-use wire_talk::{read_reply, talk_has_one_spelling};
+use wire_talk::talk_has_one_spelling;
 
 /// Gives a peer a request and reads the frame that it answers: the batch in it, or why there is none.
 pub(crate) fn fetch<D: Duplex>(

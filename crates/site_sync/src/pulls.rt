@@ -6,11 +6,12 @@ ghost use Rattle.tardis_base.specs.declared.replies.SiteLine.{SiteLine};
 ghost use Rattle.site_sync.specs.Asking.{AreStatistics, StatesLines, count_spelling, pull_frame};
 
 use frame_cut::put_frame;
+use item_bytes::write_u32;
 use std::alloc::Global;
+use talk_bytes::read_reply;
 use tardis_base::{Reply, ReplyBuf, SiteLine, SiteLines};
-use wire_item::write_u32;
 use wire_talk::request_codes::PULL;
-use wire_talk::{read_reply, talk_has_one_spelling};
+use wire_talk::talk_has_one_spelling;
 
 /// Writes the frame that asks for what is above the counts of the statistics, in place of the bytes from before. It takes
 /// no memory, and uses the statistics up.

@@ -17,8 +17,8 @@ use session_core::SiteCore;
 use std::alloc::Global;
 use std::hash::RandomState;
 use std::process::Abort;
+use talk_bytes::{read_request, write_reply};
 use tardis_base::{Limits, Reply, ReplyBuf, Request};
-use wire_talk::{read_request, write_reply};
 
 /// The request that these bytes spell.
 fn request_of(rt: &impl Abort, alloc: Global, bytes: &[u8]) -> Request

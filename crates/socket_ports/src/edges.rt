@@ -18,8 +18,8 @@ use std::alloc::Global;
 use std::io;
 use std::net::Net;
 use std::time::{Clock, Duration};
+use talk_bytes::read_reply;
 use tardis_base::Reply;
-use wire_talk::read_reply;
 
 /// The name of the first door among the events of the system; those of the others follow, and then those of the peers. The connections
 /// have their slots' numbers.

@@ -8,10 +8,10 @@ ghost use Rattle.wire_item.specs.Fronts.{bytes_front};
 ghost use Rattle.wire_item.specs.Readings.{id_front, key_front, u16_front, u32_front, u64_front, u8_front, value_front};
 
 use crate::line_bufs::LineBuf;
+use item_bytes::Reader;
 use itoa::Buffer;
 use std::marker::Model;
 use tardis_base::StateId;
-use wire_item::Reader;
 
 /// The bytes that are left of a spelling, until something else is met.
 #[derive(Drop)]

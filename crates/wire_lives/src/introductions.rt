@@ -8,8 +8,8 @@ ghost use Rattle.wire_lives.specs.Readings.{behind_code, introduction_of, life_i
 ghost use Rattle.wire_lives.specs.Laws.{IntroductionsHaveOneSpelling, IntroductionsHaveTheirLength};
 
 use crate::life_codes::LIFE;
+use item_bytes::{Reader, write_u8, write_u16};
 use tardis_base::{ReplyBuf, checked_bytes};
-use wire_item::{Reader, write_u8, write_u16};
 
 /// Who a site is.
 #[derive(Clone, Copy)]

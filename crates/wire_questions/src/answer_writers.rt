@@ -17,9 +17,9 @@ use crate::field_writers::{
     write_children, write_few, write_first_entries, write_first_keys, write_first_sessions,
     write_fork_reads, write_found, write_limits, write_written,
 };
+use item_bytes::{write_id, write_u16, write_u32, write_u64};
 use plain_questions::{Answered, Denial, EntryList, ForkReadList, SessionLines, answer_codes};
 use tardis_base::{KeyList, Limits, ReplyBuf, StateId, StateList, Write};
-use wire_item::{write_id, write_u16, write_u32, write_u64};
 use wire_talk::{refusal_codes, reply_codes};
 
 fn write_read(found: &Option<(StateId, Write)>, out: &mut ReplyBuf)

@@ -10,11 +10,11 @@ ghost use Rattle.plain_questions.specs.Spellings.{entry_spelling, first_entries_
 ghost use Rattle.plain_questions.specs.Spellings.{found_spelling, limits_spelling, session_spelling, version_spelling, written_spelling};
 ghost use Rattle.plain_questions.specs.Valid.{are_few, are_first_entries, are_first_sessions, are_fork_reads, are_written, is_session};
 
-use plain_questions::{Entry, EntryList, ForkRead, ForkReadList, SessionLine, SessionLines};
-use tardis_base::{KeyList, Limits, ReplyBuf, StateId, StateList, Write};
-use wire_item::{
+use item_bytes::{
     write_id, write_ids, write_key, write_u8, write_u16, write_u32, write_u64, write_value,
 };
+use plain_questions::{Entry, EntryList, ForkRead, ForkReadList, SessionLine, SessionLines};
+use tardis_base::{KeyList, Limits, ReplyBuf, StateId, StateList, Write};
 
 fn write_flag(flag: bool, out: &mut ReplyBuf)
     requires { length out.old + 1 ≤ longest_frame }

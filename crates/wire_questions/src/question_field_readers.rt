@@ -16,10 +16,10 @@ ghost use Rattle.plain_questions.specs.Readings.{asked_front, behind_front, page
 ghost use Rattle.plain_questions.specs.declared.questions.Question.{Question};
 ghost use Rattle.wire_questions.specs.Pages.{page_question};
 
+use item_bytes::Reader;
 use plain_questions::Question;
 use std::alloc::Global;
 use tardis_base::{ByteList, Key, MAX_KEY, MAX_PARENTS, NoMemory, StateId, StateList, pushed};
-use wire_item::Reader;
 
 /// A state and a key.
 pub fn read_at(alloc: Global, reader: &mut Reader) -> Option<Result<Question, NoMemory>>

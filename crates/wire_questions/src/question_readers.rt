@@ -14,10 +14,10 @@ ghost use Rattle.wire_questions.specs.Memory.{takes_no_memory};
 use crate::question_field_readers::{
     read_at, read_base, read_page, read_record, read_sessions, sure,
 };
+use item_bytes::{Reader, whole};
 use plain_questions::{Question, question_codes};
 use std::alloc::Global;
 use tardis_base::{NoMemory, ReadFault};
-use wire_item::{Reader, whole};
 
 /// The question that the bytes spell; None where they spell none. A question with no key, no prefix and no list takes no
 /// memory.

@@ -5,5 +5,3 @@ pub mod RequestFields
 pub mod ReplyFields
 pub mod Arms
 pub mod Laws
-pub mod RequestCodes
-pub mod Lending

@@ -6,6 +6,5 @@ pub mod Spelled
 pub mod RequestReadings
 pub mod ReplyReadings
 pub mod Memory
-pub mod Lent
 pub mod Laws
 pub mod Rows

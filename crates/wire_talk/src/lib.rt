@@ -1,31 +1,11 @@
-//! The bytes of requests and replies.
+//! What the bytes of requests and replies are: their codes, and the laws of their spellings.
 #![tactic(auto)]
 
-mod field_writers;
-mod lent_requests;
-mod list_readers;
 pub mod refusal_codes;
-mod refusal_readers;
-mod refusal_writers;
 pub mod reply_codes;
-mod reply_field_readers;
-mod reply_readers;
-mod reply_writers;
 pub mod request_codes;
-mod request_field_readers;
-mod request_readers;
-mod request_writers;
 mod spelling_laws;
 
-pub use lent_requests::{LentRequest, read_lent};
-pub use refusal_writers::write_refusal;
-pub use reply_readers::read_reply;
-pub use reply_writers::{
-    write_absent, write_begun, write_committed, write_deleted, write_done, write_ended,
-    write_refused, write_reply, write_value_reply,
-};
-pub use request_readers::read_request;
-pub use request_writers::write_request;
 pub use spelling_laws::{
     no_memory_is_spelled, requests_are_read, requests_begin_with_their_code, talk_has_one_spelling,
 };

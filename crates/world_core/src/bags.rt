@@ -16,14 +16,13 @@ ghost use Rattle.world_core.specs.Bags.{IsBag};
 ghost use Rattle.world_core.specs.Kept.{item_of};
 ghost use Rattle.world_core.specs.Gives.{Joined, is_batch_reply};
 
+use item_bytes::{read_batch, write_consent, write_record};
 use std::alloc::Global;
+use talk_bytes::write_reply;
 use tardis_base::{Batch, Consent, ListOf, NoMemory, Record, Refusal, Reply, ReplyBuf};
-use wire_item::{
-    read_batch, spellings_have_their_lengths, things_have_one_spelling, write_consent, write_record,
-};
+use wire_item::{spellings_have_their_lengths, things_have_one_spelling};
 use wire_talk::reply_codes::BATCH;
 use wire_talk::request_codes::DELIVER;
-use wire_talk::write_reply;
 
 /// The most batches that the bag holds.
 const MOST_BATCHES: usize = 1_024;

@@ -5,7 +5,7 @@ ghost use Rattle.wire_item.specs.Fronts.{whole};
 ghost use Rattle.plain_world.specs.Bodies.{body_of, step_front, carry_front};
 ghost use Rattle.world_core.specs.Asked.{body_asked};
 
-use wire_item::Reader;
+use item_bytes::Reader;
 
 /// What a body asks: a step at a site, whose request is in bytes; or the carrying of an item of a batch to a site.
 #[derive(Clone, Copy)]

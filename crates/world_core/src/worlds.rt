@@ -21,11 +21,12 @@ use plain_site::replies::replies_fit_a_frame;
 use std::alloc::Global;
 use std::hash::RandomState;
 use std::marker::Model;
+use talk_bytes::read_request;
 use tardis_base::{
     Batch, Limits, ListOf, MAX_TRAIL, NoMemory, ReadFault, Refusal, ReplyBuf, USUAL_PATH,
     USUAL_SESSIONS,
 };
-use wire_talk::{read_request, talk_has_one_spelling};
+use wire_talk::talk_has_one_spelling;
 
 /// Sites 1 to M, and the bag: all batches that they gave, in order.
 #[derive(Drop)]

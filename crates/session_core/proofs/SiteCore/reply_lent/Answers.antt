@@ -1,7 +1,7 @@
 use Rattle.std.proofs.Common.{◌≡◌, ◌∙◌, sym, subst}
 use Rattle.plain_site.specs.Site.{Site}
 use Rattle.plain_site.specs.Step.{step}
-use Rattle.wire_talk.specs.Lent.{request_lent}
+use Rattle.talk_bytes.specs.Lent.{request_lent}
 use Rattle.session_core.specs.Machine.{SiteStands, GivesBytes, opened_with}
 use Rattle.session_core.proofs.Getting.{refusal-told, wrote-stands, wrote-opening, is-written, is-refused, is-short}
 use Rattle.session_core.proofs.Telling.{small}

@@ -1,0 +1,18 @@
+use Rattle.std.proofs.Common.{subst}
+use Rattle.wire_item.specs.Readings.{item_front}
+use Rattle.wire_item.specs.Takings.{Makes}
+use Rattle.wire_item.proofs.Things.{reads-item}
+use Rattle.wire_item.proofs.Wholes.{answers}
+use Rattle.item_bytes.proofs.whole_readers.read_item.Goals as goal
+
+pub returns-clause-spelled : goal.returns-clause-spelled
+returns-clause-spelled c =
+    let made = subst (λ b. Makes item_front b c.item-taken.result c.item-taken.new.self) c.new-reader.ensures c.item-taken.ensures in
+    (answers reads-item c.args.bytes.now c.item-taken.result c.item-taken.new.self c.is_done.result made c.is_done.ensures c.whole.result
+    c.whole.ensures).spelled
+
+pub returns-clause-malformed : goal.returns-clause-malformed
+returns-clause-malformed c =
+    let made = subst (λ b. Makes item_front b c.item-taken.result c.item-taken.new.self) c.new-reader.ensures c.item-taken.ensures in
+    (answers reads-item c.args.bytes.now c.item-taken.result c.item-taken.new.self c.is_done.result made c.is_done.ensures c.whole.result
+    c.whole.ensures).malformed

@@ -1,0 +1,15 @@
+use Rattle.std.proofs.Common.{refl}
+use Rattle.wire_item.specs.Readings.{u32_front, id_front}
+use Rattle.wire_item.proofs.Takings.{taken, untaken, makes-none, makes-after}
+use Rattle.wire_talk.specs.ReplyReadings.{children_front}
+use Rattle.talk_bytes.proofs.reply_field_readers.children.Goals as goal
+
+pub returns-in_err-count : goal.returns-in_err-count
+returns-in_err-count c =
+    let none = untaken u32_front c.args.reader.now c.u32.new.self c.in_err-count.ensures in
+    makes-none children_front c.args.reader.now c.u32.new.self c.from_residual.result c.from_residual.ensures (rw (none) refl)
+
+pub returns : goal.returns
+returns c =
+    let count = taken u32_front c.args.reader.now c.u32.new.self c.in_ok-count.count c.in_ok-count.ensures in
+    makes-after u32_front id_front c.args.reader.now c.in_ok-count.count c.u32.new.self c.ids.result c.ids.new.reader count c.ids.ensures

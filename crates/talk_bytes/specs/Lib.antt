@@ -1,0 +1,2 @@
+-- Which requests are lent from their bytes.
+pub mod Lent

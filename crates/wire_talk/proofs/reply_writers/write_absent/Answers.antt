@@ -1,4 +1,0 @@
-use Rattle.wire_talk.proofs.reply_writers.write_absent.Goals as goal
-
-pub returns : goal.returns
-returns c = c.push_byte.ensures
