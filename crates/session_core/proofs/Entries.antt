@@ -1,41 +1,15 @@
--- Entries by numbers: what holds of each, and those of a map.
+-- Entries by numbers: what holds of each.
 use Rattle.std.proofs.Common.{◌≡◌, ℕ, not, List, [], ◌∷◌, Option, Some, None, inl, inr, refl, sym, ap, subst, ◌∙◌}
 use Rattle.std.specs.Option.{option_map}
-use Rattle.std.specs.Ordering.{nat_cmp}
-use Rattle.std.specs.Map.{lookup, remove_entry, set_value, keys_of}
-use Rattle.std.specs.BTreeMap.{insert_entry, is_at}
-use Rattle.std.specs.List.Sorted.{IsStrictlySortedBy}
 use Rattle.std.specs.Prelude.{◌==◌}
 use Rattle.std.proofs.lemmas.Bool.{cases_Bool, cond-true}
 use Rattle.std.proofs.lemmas.Option.{none-some, same_Some}
-use Rattle.std.proofs.lemmas.Map.Keys.{IsDistinct-from_sorted}
 use Rattle.plain_dag.specs.Entries.{entry_of, with_entry, changed, without_entry}
 use Rattle.plain_site.proofs.SoundEntries.{entry-here, entry-later, entry-changed, entry-changed_other, entry-with_entry}
 use Rattle.plain_site.proofs.SoundEntries.{entry-with_entry_other, entry-without_entry, entry-without_entry_other}
 use Rattle.plain_site.proofs.SoundBooks.{at-each}
-use Rattle.ceiling_book.proofs.Entries.{mapped, inserted, removed, written}
 
 module _ {A : Type 0} where
-  mapped-same : (es : List (ℕ × A)) → mapped (λ (a : A). a) es ≡ es
-  mapped-same [] = refl
-  mapped-same (e ∷ es) = ap (λ (ds : List (ℕ × A)). e ∷ ds) (mapped-same es)
-
-  -- ===== Entries of a map
-
-  pub is-inserted : (n : ℕ) (a : A) (es : List (ℕ × A)) → insert_entry nat_cmp es n a ≡ with_entry n a es
-  is-inserted n a es = sym (mapped-same (insert_entry nat_cmp es n a)) ∙ inserted (λ (b : A). b) n a es ∙ ap (with_entry n a) (mapped-same es)
-
-  pub is-removed : (n : ℕ) (es : List (ℕ × A)) → ◌≡◌ {A = Option A} (lookup (is_at (nat_cmp n)) (remove_entry (is_at (nat_cmp n)) es)) None →
-      remove_entry (is_at (nat_cmp n)) es ≡ without_entry n es
-  is-removed n es none = sym (mapped-same (remove_entry (is_at (nat_cmp n)) es)) ∙ removed (λ (b : A). b) n es none ∙ ap (without_entry n) (mapped-same es)
-
-  pub is-written : (n : ℕ) (g : A → A) (es : List (ℕ × A)) (v : A) → IsStrictlySortedBy nat_cmp (keys_of es) → lookup (is_at (nat_cmp n)) es ≡ Some v →
-      set_value (is_at (nat_cmp n)) es (g v) ≡ changed n g es
-  is-written n g es v ordered found =
-      sym (mapped-same (set_value (is_at (nat_cmp n)) es (g v)))
-      ∙ written (λ (b : A). b) n g es v (g v) (IsDistinct-from_sorted nat_cmp (keys_of es) ordered) found refl
-      ∙ ap (changed n g) (mapped-same es)
-
   -- ===== No such entry
 
   -- where there is no such entry, none is taken away

@@ -1,6 +1,5 @@
 -- Lemmas on the site in memory.
 pub mod Entries
-pub mod Places
 pub mod Written
 pub mod Answers
 pub mod Standing

@@ -9,7 +9,8 @@ use Rattle.merge_txn.specs.declared.Txn.{Txn}
 use Rattle.merge_txn.specs.declared.TxnFault.{TxnFault}
 use Rattle.merge_txn.specs.Txns.{writes_of, reads_of, has_no_place_to_write, has_no_place_to_read, too_many_writes, too_many_reads}
 use Rattle.tardis_base.specs.declared.records.Write.{Write}
-use Rattle.session_core.specs.Txns.{has_slots, ChangedAs, PutAs, NotedAs, putting, noting}
+use Rattle.txn_book.specs.Txns.{ChangedAs, PutAs, NotedAs, putting, noting}
+use Rattle.session_core.specs.Txns.{has_slots}
 use Rattle.session_core.proofs.Reading.{noted-slots}
 use Rattle.session_core.proofs.Writing.{put-slots}
 use Rattle.record_store.specs.Store.{Store}

@@ -37,7 +37,8 @@ use Rattle.session_core.specs.declared.stops.Stop.{Stop}
 use Rattle.session_core.specs.Stops.{txn_stop}
 use Rattle.session_core.specs.declared.transactions.NotedRead.TheVariants.{Found as At, Fault}
 use Rattle.session_core.specs.NotedReads.{ReadsIn}
-use Rattle.session_core.specs.Txns.{noting, IsNamed, NotedAs, has_slots, slot_read, slot_unless}
+use Rattle.txn_book.specs.Txns.{noting, NotedAs, slot_read, slot_unless}
+use Rattle.session_core.specs.Txns.{IsNamed, has_slots}
 use Rattle.session_core.proofs.Answers.{skip, stop, as-given, stopped}
 use Rattle.session_core.proofs.Standing.{has-txn, txn-answer, txn-changed, same-txns}
 
@@ -197,7 +198,3 @@ module _ (stands : Site → Type 0) (site : Site) (n : ℕ) (k : List ℕ) (x : 
   pub note-stopped : (what : Stop) (r : Result Reply Stop) → NotesOrStops stands site n k x (Err what) → IsErrAnd r (λ stop. stop ≡ what) →
       GivesOrStops stands (reading site n k) site r
   note-stopped what r stops is = stopped stands (reading site n k) site what r is stops
-
--- no read is noted of a key that the transaction has written
-pub own-isnt_noted : {w : Write} (k : List ℕ) (one : OneKept) (t : Kept) → t ≡ KeptSingle one → Some w ≡ write_of k one.writes → None ≡ slot_read k t
-own-isnt_noted k one t is has = sym (ap (slot_read k) is ∙ ap (λ o. slot_unless o one.slot) (sym has))

@@ -13,7 +13,8 @@ use Rattle.plain_site.specs.Sound.{IsSound}
 use Rattle.plain_site.specs.Answers.{Answer, with_txn}
 use Rattle.plain_site.specs.Reads.{too_many_writes, set_key, having_written}
 use Rattle.session_core.specs.Core.{Core}
-use Rattle.session_core.specs.Txns.{putting, IsNamed, PutAs, has_slots}
+use Rattle.txn_book.specs.Txns.{putting, PutAs}
+use Rattle.session_core.specs.Txns.{IsNamed, has_slots}
 use Rattle.session_core.specs.Stands.{CoreStands, txn_of}
 use Rattle.session_core.specs.Gives.{IsGiven, Stops}
 use Rattle.session_core.specs.Stops.{txn_stop}

@@ -1,5 +1,4 @@
 -- The site in memory: what it holds, when it stands for a plain site, and what its calls answer.
-pub mod Places
 pub mod Adds
 pub mod Txns
 pub mod Core

@@ -14,7 +14,7 @@ use Rattle.merge_txn.specs.declared.Txn.{Txn}
 use Rattle.merge_txn.specs.Txns.{reads_of, has_no_place_to_read, read_fault}
 use Rattle.session_core.specs.declared.transactions.NotedRead.{NotedRead}
 use Rattle.session_core.specs.declared.transactions.NotedRead.TheVariants.{Found, Fault, Other}
-use Rattle.session_core.specs.Txns.{slot_read, noting}
+use Rattle.txn_book.specs.Txns.{slot_read, noting}
 
 -- this is what is read of the key at the slot
 abbrev pub FindsAt : Store → Slot → List ℕ → What → Type 0

@@ -1,30 +1,12 @@
--- What becomes of the transaction in a place that is read, or written to.
-use Rattle.std.specs.Prelude.{◌≡◌, Bool, false, ℕ, List, Option, Some, None, Result, Ok, Err, if◌then◌else◌}
-use Rattle.tardis_base.specs.declared.records.Write.{Write}
+-- What becomes of the transaction in a place that is read.
+use Rattle.std.specs.Prelude.{◌≡◌, ℕ, List, Option, Some, None}
 use Rattle.merge_txn.specs.declared.Txn.{Txn}
-use Rattle.merge_txn.specs.declared.TxnFault.{TxnFault}
-use Rattle.merge_txn.specs.declared.TxnFault.TheVariants.{NoMemory}
-use Rattle.merge_txn.specs.Txns.{writes_of, reads_of, has_no_place_to_write, has_no_place_to_read, too_many_writes, too_many_reads}
 use Rattle.record_store.specs.Store.{Store}
 use Rattle.session_core.specs.declared.transactions.NotedRead.{NotedRead}
 use Rattle.session_core.specs.declared.transactions.NotedRead.TheVariants.{Other}
 use Rattle.session_core.specs.NotedReads.{TxnReads}
-use Rattle.session_core.specs.Txns.{noting, putting}
 
 -- it reads the key; where there is none, the key is given back
 abbrev pub ReadsAtPlace : Store → Option Txn → Option Txn → List ℕ → NotedRead → Type 0
 ReadsAtPlace store old (Some u) k read = (t : Txn) × (old ≡ Some t) × TxnReads store t u k read
 ReadsAtPlace store old None k read = (old ≡ None) × (read ≡ Other k)
-
--- it is changed, or it was full or there is no memory, and it is as before; or there is none
-abbrev pub ChangedAtPlace : Option Txn → Option Txn → (Txn → Txn) → (Txn → Bool) → TxnFault → Option (Result Unit TxnFault) → Type 0
-ChangedAtPlace old new f full too_many (Some (Ok done)) = (t : Txn) × (old ≡ Some t) × (full t ≡ false) × (new ≡ Some (f t))
-ChangedAtPlace old new f full too_many (Some (Err fault)) =
-    (t : Txn) × (old ≡ Some t) × (fault ≡ (if full t then too_many else NoMemory)) × (new ≡ Some t)
-ChangedAtPlace old new f full too_many None = (old ≡ None) × (new ≡ None)
-
-abbrev pub NotedAtPlace : Option Txn → Option Txn → List ℕ → Option (Result Unit TxnFault) → Type 0
-NotedAtPlace old new k noted = ChangedAtPlace old new (noting k) (λ t. has_no_place_to_read k (reads_of t)) too_many_reads noted
-
-abbrev pub PutAtPlace : Option Txn → Option Txn → List ℕ → Write → Option (Result Unit TxnFault) → Type 0
-PutAtPlace old new k w put = ChangedAtPlace old new (putting k w) (λ t. has_no_place_to_write k (writes_of t)) too_many_writes put

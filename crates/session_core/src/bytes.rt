@@ -20,7 +20,7 @@ ghost use Rattle.session_core.specs.Guards.{HasTxn};
 ghost use Rattle.plain_dag.specs.Entries.{entry_of};
 ghost use Rattle.merge_txn.specs.declared.Txn.{Txn};
 ghost use Rattle.talk_bytes.specs.Lent.{request_lent};
-ghost use Rattle.session_core.specs.Txns.{slot_read};
+ghost use Rattle.txn_book.specs.Txns.{slot_read};
 ghost use Rattle.session_core.specs.Gives.{Gives};
 ghost use Rattle.session_core.specs.Machine.{AsksFor, SiteStands, GivesBytes, IsTold, opened_with, writing, Wrote};
 
@@ -28,7 +28,7 @@ use crate::commits::CommitEnd;
 use crate::gives::{give_end, give_found, give_refused};
 use crate::reads_and_writes::own_write;
 use crate::stops::Stop;
-use crate::transactions::NotedRead;
+use crate::transactions::{NotedRead, read_noted};
 use crate::{Parts, SiteCore};
 use merge_txn::{MergeTxn, Txn};
 use std::alloc::Global;
@@ -108,7 +108,7 @@ impl Parts {
         requires stands { StandsForSite self.old }
         ensures { Wrote self.old self.new actor (Request.Get key) result out.new }
     {
-        match self.txns.read(&self.store, actor, key) {
+        match read_noted(&mut self.txns, &self.store, actor, key) {
             NotedRead::Found(found) => {
                 give_found(found, out);
                 Ok(())

@@ -18,6 +18,7 @@ ghost use Rattle.session_core.specs.Txns.{IsNamed};
 use crate::Parts;
 use crate::merges::states_in;
 use crate::stops::Stop;
+use crate::transactions::commit_open;
 use conflict_keys::open_conflict;
 use merge_txn::{MergeTxn, SingleTxn, Txn};
 use tardis_base::{EndFlags, ListOf, Refusal, Reply, Slot, StateId, StateList};
@@ -156,7 +157,7 @@ impl Parts {
             sequence: count + 1,
         };
         let parents = states_in(self.alloc, told, self.store.dag(), below)?;
-        let Some(done) = self.txns.commit(&mut self.store, actor, id, below) else {
+        let Some(done) = commit_open(&mut self.txns, &mut self.store, actor, id, below) else {
             return Err(Stop::Refused(Refusal::NoTxn));
         };
         match done {

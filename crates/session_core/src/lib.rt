@@ -38,7 +38,7 @@ use std::alloc::Global;
 use std::hash::RandomState;
 use std::marker::Model;
 use tardis_base::{Limits, NoMemory, StateList};
-use transactions::TxnBook;
+use txn_book::TxnBook;
 
 /// One site: its history, its sessions, its open transactions, and what waits.
 ///

@@ -6,13 +6,13 @@ ghost use Rattle.session_core.specs.Stands.{CoreStands};
 ghost use Rattle.session_core.specs.Machine.{SiteStands, opened_with};
 ghost use Rattle.session_core.specs.Together.{RestTogether};
 
-use crate::transactions::TxnBook;
 use crate::{Parts, SiteCore};
 use ceiling_book::CeilingBook;
 use record_store::RecordStore;
 use site_exchange::WaitRoom;
 use std::alloc::Global;
 use tardis_base::{NoMemory, StateList};
+use txn_book::TxnBook;
 
 impl SiteCore {
     /// The site at rest that stands on this store and this book: no session, and nothing that waits. The room for what waits is

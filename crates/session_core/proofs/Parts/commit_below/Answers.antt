@@ -16,33 +16,33 @@ use Rattle.session_core.specs.Stops.{add_stop}
 use Rattle.session_core.proofs.Committing.{grown-held, commit-gives, commit-stops, may-commit, writes-as, told-parents}
 use Rattle.session_core.proofs.Parts.commit_below.Goals as goal
 
-pub commit-requires-clause-first : goal.commit-requires-clause-first
-commit-requires-clause-first c = c.own_site-own.ensures.first
+pub commit_open-requires-clause-first : goal.commit_open-requires-clause-first
+commit_open-requires-clause-first c = c.own_site-own.ensures.first
 
-pub commit-requires-clause-last : goal.commit-requires-clause-last
-commit-requires-clause-last c = subst (λ n. c.own_site-own.result ≤ n) c.self.invariant.floors c.own_site-own.ensures.last
+pub commit_open-requires-clause-last : goal.commit_open-requires-clause-last
+commit_open-requires-clause-last c = subst (λ n. c.own_site-own.result ≤ n) c.self.invariant.floors c.own_site-own.ensures.last
 
-pub commit-requires-clause-next : goal.commit-requires-clause-next
-commit-requires-clause-next c =
+pub commit_open-requires-clause-next : goal.commit_open-requires-clause-next
+commit_open-requires-clause-next c =
     ap (λ n. n + 1) (c.count-count.ensures.is ∙ ap (λ (t : Table). unwrap_or (slice_get t.counts (c.own_site-own.result - 1)) 0) c.dag.ensures)
 
-pub commit-requires-clause-slots : goal.commit-requires-clause-slots
-commit-requires-clause-slots c = subst (λ v. IsTrue (list_all (is_slot v.store.table) c.args.below.now)) (sym c.self.view_is) c.requires.slots
+pub commit_open-requires-clause-slots : goal.commit_open-requires-clause-slots
+commit_open-requires-clause-slots c = subst (λ v. IsTrue (list_all (is_slot v.store.table) c.args.below.now)) (sym c.self.view_is) c.requires.slots
 
 pub committed-requires-clause-slots : goal.committed-requires-clause-slots
 committed-requires-clause-slots c =
     let id : StateId = record { site = c.own_site-own.result; sequence = c.count-count.result + 1 } in
-    let done = subst (λ r. CommitsIn c.self.inside.store c.commit.new.store c.self.inside.txns c.commit.new.self c.args.actor id c.args.below.now (Some r))
+    let done = subst (λ r. CommitsIn c.self.inside.store c.commit_open.new.store c.self.inside.txns c.commit_open.new.txns c.args.actor id c.args.below.now (Some r))
     c.in-Ok.is c.in-Some.ensures in
     subst (λ t. AreSlots c.self.inside.book t) (sym c.dag-in-Ok.ensures)
-    (slots-grow c.self.inside.book c.self.inside.store.table c.commit.new.store.table done.2.keeps c.self.invariant.places)
+    (slots-grow c.self.inside.book c.self.inside.store.table c.commit_open.new.store.table done.2.keeps c.self.invariant.places)
 
 pub invariant_of-self-in-Ok : goal.invariant_of-self-in-Ok
 invariant_of-self-in-Ok c =
     let id : StateId = record { site = c.own_site-own.result; sequence = c.count-count.result + 1 } in
-    let done = subst (λ r. CommitsIn c.self.inside.store c.commit.new.store c.self.inside.txns c.commit.new.self c.args.actor id c.args.below.now (Some r))
+    let done = subst (λ r. CommitsIn c.self.inside.store c.commit_open.new.store c.self.inside.txns c.commit_open.new.txns c.args.actor id c.args.below.now (Some r))
     c.in-Ok.is c.in-Some.ensures in
-    grown-held c.self.inside c.commit.new.store c.committed.new.self c.args.actor c.commit.new.self c.self.invariant done.2.keeps
+    grown-held c.self.inside c.commit_open.new.store c.committed.new.self c.args.actor c.commit_open.new.txns c.self.invariant done.2.keeps
     done.2.limits c.committed.ensures.rest
     (subst (λ t. AreSlots c.committed.new.self t) c.dag-in-Ok.ensures c.committed.ensures.slots) done.3
 
@@ -57,15 +57,15 @@ returns-in-Err c = λ site stands t xs found named_now arrives.
     c.count-count.ensures.count c.if-count.false c.args.below.now xs (writes_of t) named arrives in
     let r = next_record site xs (writes_of t) in
     let id : StateId = record { site = c.own_site-own.result; sequence = c.count-count.result + 1 } in
-    let done = subst (λ r. CommitsIn c.self.inside.store c.commit.new.store c.self.inside.txns c.commit.new.self c.args.actor id c.args.below.now (Some r))
+    let done = subst (λ r. CommitsIn c.self.inside.store c.commit_open.new.store c.self.inside.txns c.commit_open.new.txns c.args.actor id c.args.below.now (Some r))
     c.in-Err.is c.in-Some.ensures in
     let fault = c.in-Err.fault in
     let writes = sym (writes-as core site here n t found done.0 done.1) in
     let added = done.2.added site.dag site.collected r here.store (sym may.named) writes may.added in
-    let stops = commit-stops core site here n xs (writes_of t) c.commit.new.store fault may.more added done.2.same.table in
-    subst (Stops (CoreStands (record core { store = c.commit.new.store; txns = c.commit.new.self })) (commit_below site n xs (writes_of t) []) site)
+    let stops = commit-stops core site here n xs (writes_of t) c.commit_open.new.store fault may.more added done.2.same.table in
+    subst (Stops (CoreStands (record core { store = c.commit_open.new.store; txns = c.commit_open.new.txns })) (commit_below site n xs (writes_of t) []) site)
     (sym c.from.ensures)
-    (subst (λ es. Stops (CoreStands (record core { store = c.commit.new.store; txns = es })) (commit_below site n xs (writes_of t) []) site
+    (subst (λ es. Stops (CoreStands (record core { store = c.commit_open.new.store; txns = es })) (commit_below site n xs (writes_of t) []) site
     (add_stop fault)) (sym done.3) stops)
 
 pub returns-in-Ok : goal.returns-in-Ok
@@ -79,17 +79,17 @@ returns-in-Ok c = λ site stands t xs found named_now arrives.
     c.count-count.ensures.count c.if-count.false c.args.below.now xs (writes_of t) named arrives in
     let r = next_record site xs (writes_of t) in
     let id : StateId = record { site = c.own_site-own.result; sequence = c.count-count.result + 1 } in
-    let done = subst (λ r. CommitsIn c.self.inside.store c.commit.new.store c.self.inside.txns c.commit.new.self c.args.actor id c.args.below.now (Some r))
+    let done = subst (λ r. CommitsIn c.self.inside.store c.commit_open.new.store c.self.inside.txns c.commit_open.new.txns c.args.actor id c.args.below.now (Some r))
     c.in-Ok.is c.in-Some.ensures in
     let writes = sym (writes-as core site here n t found done.0 done.1) in
     let added = done.2.added site.dag site.collected r here.store (sym may.named) writes may.added in
     let stands_new = subst (λ z. Stands z (r ∷ site.dag) site.collected) (sym c.dag-in-Ok.ensures) added.1.table in
     let placed =
     subst (λ z. ArePlaced c.self.inside.book z (r ∷ site.dag) site.collected) (sym c.dag-in-Ok.ensures)
-    (placed-grow c.self.inside.book c.self.inside.store.table c.commit.new.store.table site.dag site.collected r here.store.table done.2.keeps
+    (placed-grow c.self.inside.book c.self.inside.store.table c.commit_open.new.store.table site.dag site.collected r here.store.table done.2.keeps
     here.placed) in
     let named_new = subst (λ z. id_at z c.in-Ok.slot ≡ Some r.id) (sym c.dag-in-Ok.ensures) (done.2.slot.1 ∙ ap (λ y. Some y) may.named) in
-    commit-gives core site here n xs (writes_of t) c.commit.new.store c.committed.new.self c.commit.new.self
+    commit-gives core site here n xs (writes_of t) c.commit_open.new.store c.committed.new.self c.commit_open.new.txns
     id c.in_ok-parents.parents may.more may.named
     (told-parents c.dag-2.result.now c.self.inside.store.table c.dag-2.ensures c.args.below.now xs c.in_ok-parents.parents c.in_ok-parents.ensures named)
     added done.2.keeps done.2.limits c.committed.ensures.rest

@@ -5,7 +5,7 @@ use Rattle.session_core.specs.Gives.{Stops}
 use Rattle.session_core.specs.Held.{seen}
 use Rattle.session_core.specs.Machine.{NotesOrStops, reading}
 use Rattle.session_core.specs.Stands.{CoreStands}
-use Rattle.session_core.specs.Txns.{NotedAs}
+use Rattle.txn_book.specs.Txns.{NotedAs}
 use Rattle.session_core.proofs.Memory.{note-held}
 use Rattle.session_core.proofs.Reading.{note-done, note-stops, noted-some}
 use Rattle.session_core.proofs.Standing.{has-txn}

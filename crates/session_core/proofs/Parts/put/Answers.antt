@@ -4,7 +4,7 @@ use Rattle.plain_site.specs.Reads.{set_key}
 use Rattle.session_core.specs.Gives.{Stops}
 use Rattle.session_core.specs.Held.{seen}
 use Rattle.session_core.specs.Stands.{CoreStands}
-use Rattle.session_core.specs.Txns.{PutAs}
+use Rattle.txn_book.specs.Txns.{PutAs}
 use Rattle.session_core.proofs.Memory.{put-held}
 use Rattle.session_core.proofs.Writing.{put-done, put-stops}
 use Rattle.session_core.proofs.Parts.put.Goals as goal

@@ -1,9 +1,9 @@
 use Rattle.std.proofs.Common.{◌∙◌, Some, ap}
 use Rattle.plain_dag.specs.Entries.{with_entry}
-use Rattle.session_core.specs.Places.{open_of}
-use Rattle.session_core.proofs.Entries.{is-inserted}
-use Rattle.session_core.proofs.Places.{open-with}
-use Rattle.session_core.proofs.transactions.TxnBook.begin.Goals as goal
+use Rattle.txn_book.specs.Places.{open_of}
+use Rattle.txn_book.proofs.Entries.{is-inserted}
+use Rattle.txn_book.proofs.Places.{open-with}
+use Rattle.txn_book.proofs.TxnBook.begin.Goals as goal
 
 pub returns-clause-begun : goal.returns-clause-begun
 returns-clause-begun c =

@@ -1,11 +1,11 @@
 -- Places of transactions, and those of them that aren't empty.
-use Rattle.std.proofs.Common.{◌≡◌, ℕ, true, false, ◌==◌, not, nat_lt, List, [], ◌∷◌, Option, Some, None, inl, inr, refl, sym, ap, subst, ◌∙◌, arith}
+use Rattle.std.proofs.Common.{◌≡◌, ℕ, Bool, cond, ap₂, eqb-true, true, false, ◌==◌, not, nat_lt, List, [], ◌∷◌, Option, Some, None, inl, inr, refl, sym, ap, subst, ◌∙◌, arith}
 use Rattle.std.specs.List.{AllByRecursion, IsDistinct}
 use Rattle.std.specs.List.Sorted.{IsStrictlySortedBy}
-use Rattle.std.specs.Map.{lookup, keys_of}
+use Rattle.std.specs.Map.{lookup, set_value, keys_of}
 use Rattle.std.specs.BTreeMap.{is_at}
 use Rattle.std.specs.Option.{option_map}
-use Rattle.std.specs.Ordering.{nat_cmp, is_eq, eq_by_cmp}
+use Rattle.std.specs.Ordering.{nat_cmp, eq_by_cmp}
 use Rattle.std.specs.declared.cmp.Ordering.TheVariants.{Less}
 use Rattle.std.specs.Cmp.{nat_cmp_total, eq_by_cmp_equiv}
 use Rattle.std.proofs.lemmas.Bool.{cases_Bool, cond-true, cond-false}
@@ -15,12 +15,8 @@ use Rattle.std.proofs.lemmas.Map.{lookup-none}
 use Rattle.std.proofs.lemmas.Map.Entries.{none_past_head}
 use Rattle.std.proofs.lemmas.Map.Keys.{IsDistinct-tail, sorted_head, sorted_tail}
 use Rattle.plain_dag.specs.Entries.{entry_of, with_entry, changed, without_entry}
-use Rattle.plain_site.proofs.SoundEntries.{entry-here, entry-later, changed-here, changed-later}
-use Rattle.ceiling_book.proofs.Entries.{looked-up}
-use Rattle.session_core.specs.Places.{opened, open_of}
-
-at-number : (k n : ℕ) → is_eq (nat_cmp k n) ≡ (k == n)
-at-number k n = grind (arith, nat_tests)
+use Rattle.txn_book.specs.Places.{opened, open_of}
+use Rattle.txn_book.proofs.Entries.{at-number, looked-up, entry-here, entry-later, changed-here, changed-later}
 
 below-number : (k n : ℕ) → nat_cmp k n ≡ Less → nat_lt k n ≡ true
 below-number k n e = grind (arith, nat_tests)
@@ -28,8 +24,24 @@ below-number k n e = grind (arith, nat_tests)
 below-both : (k m n : ℕ) → nat_lt k m ≡ true → nat_lt m n ≡ true → nat_lt k n ≡ true
 below-both k m n a b = grind (arith, nat_tests)
 
+apart : (k n : ℕ) → nat_lt k n ≡ true → (k == n) ≡ false
+apart k n t = grind (arith, nat_tests)
+
+not-below-itself : (k n : ℕ) → (k == n) ≡ true → nat_lt k n ≡ false
+not-below-itself k n t = grind (arith, nat_tests)
+
+not-above-itself : (k n : ℕ) → (k == n) ≡ true → nat_lt n k ≡ false
+not-above-itself k n t = grind (arith, nat_tests)
+
+above-others : (k n : ℕ) → (k == n) ≡ false → nat_lt k n ≡ false → nat_lt n k ≡ true
+above-others k n differ not_below = grind (arith, nat_tests)
+
 not-apart : (k m n : ℕ) → nat_lt k m ≡ false → nat_lt m k ≡ false → nat_lt m n ≡ true → nat_lt k n ≡ true
 not-apart k m n a b c = grind (arith, nat_tests)
+
+all-above-it : (n m : ℕ) (ms : List ℕ) → nat_lt n m ≡ true → AllByRecursion (λ k. nat_cmp m k ≡ Less) ms → AllByRecursion (λ k. nat_lt n k ≡ true) ms
+all-above-it n m [] lt h = tt
+all-above-it n m (k ∷ ms) lt h = (below-both n m k lt (below-number m k h.0), all-above-it n m ms lt h.1)
 
 module _ {A : Type 0} (n : ℕ) where
   -- ===== What is there
@@ -177,6 +189,36 @@ module _ {A : Type 0} (n : ℕ) where
 
         replaced : nat_lt n e.0 ≡ false → nat_lt e.0 n ≡ false → open_of (with_entry n (Some a) (e ∷ es)) ≡ (n, a) ∷ open_of es
         replaced f g = rw (f, g) refl
+
+  -- ===== What a place is filled with
+
+  none-above : (es : List (ℕ × Option A)) → AllByRecursion (λ m. nat_lt n m ≡ true) (keys_of es) → ◌≡◌ {A = Option (Option A)} (entry_of n es) None
+  none-above [] above = refl
+  none-above (e ∷ es) above = entry-later n e es (apart n e.0 above.0) ∙ none-above es above.1
+
+  set-filled : (w v : Option A) (es : List (ℕ × Option A)) → IsStrictlySortedBy nat_cmp (keys_of es) → entry_of n es ≡ Some v →
+      set_value (is_at (nat_cmp n)) es w ≡ with_entry n w es
+  set-filled w v [] sorted found = absurd (none-some v found)
+  set-filled w v (e ∷ es) sorted found =
+      let test : ℕ → Bool = is_at (nat_cmp n) in
+      let after : Bool → List (ℕ × Option A) = λ b. cond b ((e.0, w) ∷ es) (e ∷ set_value test es w) in
+      let with : Bool → Bool → List (ℕ × Option A) = λ less more. cond less ((n, w) ∷ e ∷ es) (cond more (e ∷ with_entry n w es) ((n, w) ∷ es)) in
+      elim (cases_Bool (n == e.0)) [
+        | inl t ↦
+            ap after (at-number n e.0 ∙ t)
+            ∙ ap (λ z. (z, w) ∷ es) (sym (eqb-true n e.0 t))
+            ∙ sym (ap₂ with (not-below-itself n e.0 t) (not-above-itself n e.0 t))
+        | inr f ↦ elim (cases_Bool (nat_lt n e.0)) [
+          | inl lt ↦ absurd (none-some v (sym (none-above (e ∷ es) (lt, all-above-it n e.0 (keys_of es) lt (sorted_head nat_cmp e.0 (keys_of es) sorted))) ∙ found))
+          | inr ge ↦
+              let later = set-filled w v es (sorted_tail nat_cmp e.0 (keys_of es) sorted) (sym (entry-later n e es f) ∙ found) in
+              ap after (at-number n e.0 ∙ f) ∙ ap (λ z. e ∷ z) later ∙ sym (ap₂ with ge (above-others n e.0 f ge))
+        ]
+      ]
+
+  pub open-filled : (a : A) (v : Option A) (es : List (ℕ × Option A)) → IsStrictlySortedBy nat_cmp (keys_of es) → lookup (is_at (nat_cmp n)) es ≡ Some v →
+      open_of (set_value (is_at (nat_cmp n)) es (Some a)) ≡ with_entry n a (open_of es)
+  open-filled a v es sorted found = ap open_of (set-filled (Some a) v es sorted (sym (looked-up n es) ∙ found)) ∙ open-with a es sorted
 
   -- ===== What a look-up finds
 

@@ -1,5 +1,5 @@
-use Rattle.session_core.proofs.Reading.{own-isnt_noted}
-use Rattle.session_core.proofs.transactions.slot_to_read.Goals as goal
+use Rattle.txn_book.proofs.Written.{own-isnt_noted}
+use Rattle.txn_book.proofs.slot_to_read.Goals as goal
 
 pub returns-in-Some : goal.returns-in-Some
 returns-in-Some c = own-isnt_noted c.args.key.now c.in-Single.single c.args.txn.now c.in-Single.is c.in-Some.ensures

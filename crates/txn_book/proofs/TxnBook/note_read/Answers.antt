@@ -1,10 +1,10 @@
 use Rattle.std.proofs.Common.{◌∙◌, None, sym, ap, subst}
 use Rattle.std.specs.Option.{option_copied_mut}
-use Rattle.session_core.specs.Places.{open_of}
-use Rattle.session_core.specs.Txns.{NotedAs}
-use Rattle.session_core.proofs.Written.{nothing-there, is-noted}
-use Rattle.session_core.proofs.transactions.TxnBook.note_read.Goals as goal
-use Rattle.session_core.proofs.transactions.TxnBook.note_read.Goals.{in-Some, in-None}
+use Rattle.txn_book.specs.Places.{open_of}
+use Rattle.txn_book.specs.Txns.{NotedAs}
+use Rattle.txn_book.proofs.Written.{nothing-there, is-noted}
+use Rattle.txn_book.proofs.TxnBook.note_read.Goals as goal
+use Rattle.txn_book.proofs.TxnBook.note_read.Goals.{in-Some, in-None}
 
 pub returns : goal.returns
 returns c =

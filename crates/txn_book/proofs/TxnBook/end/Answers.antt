@@ -1,9 +1,9 @@
 use Rattle.std.proofs.Common.{◌∙◌, sym, ap}
 use Rattle.std.specs.Option.{option_copied_mut}
-use Rattle.session_core.specs.Places.{open_of}
-use Rattle.session_core.proofs.Written.{nothing-ends, after-ended}
-use Rattle.session_core.proofs.transactions.TxnBook.end.Goals as goal
-use Rattle.session_core.proofs.transactions.TxnBook.end.Goals.{in-Some, in-None}
+use Rattle.txn_book.specs.Places.{open_of}
+use Rattle.txn_book.proofs.Written.{nothing-ends, after-ended}
+use Rattle.txn_book.proofs.TxnBook.end.Goals as goal
+use Rattle.txn_book.proofs.TxnBook.end.Goals.{in-Some, in-None}
 
 pub returns : goal.returns
 returns c =

@@ -1,7 +1,7 @@
 use Rattle.std.proofs.Common.{◌∙◌, Some, sym, ap}
 use Rattle.std.specs.Option.{option_copied}
-use Rattle.session_core.proofs.Written.{is-there, nothing-left, nothing-there}
-use Rattle.session_core.proofs.transactions.TxnBook.get.Goals as goal
+use Rattle.txn_book.proofs.Written.{is-there, nothing-left, nothing-there}
+use Rattle.txn_book.proofs.TxnBook.get.Goals as goal
 
 pub returns-in-Some-Some : goal.returns-in-Some-Some
 returns-in-Some-Some c =

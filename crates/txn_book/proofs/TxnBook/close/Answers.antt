@@ -4,10 +4,10 @@ use Rattle.std.specs.Ordering.{nat_cmp}
 use Rattle.std.specs.BTreeMap.{is_at}
 use Rattle.plain_dag.specs.Entries.{without_entry}
 use Rattle.merge_txn.specs.declared.Txn.{Txn}
-use Rattle.session_core.specs.Places.{open_of}
-use Rattle.session_core.proofs.Entries.{is-removed}
-use Rattle.session_core.proofs.Places.{open-without}
-use Rattle.session_core.proofs.transactions.TxnBook.close.Goals as goal
+use Rattle.txn_book.specs.Places.{open_of}
+use Rattle.txn_book.proofs.Entries.{is-removed}
+use Rattle.txn_book.proofs.Places.{open-without}
+use Rattle.txn_book.proofs.TxnBook.close.Goals as goal
 
 pub returns : goal.returns
 returns c =
