@@ -5,8 +5,8 @@ use Rattle.tardis_base.specs.declared.replies.Refusal.{Refusal}
 use Rattle.tardis_base.specs.declared.replies.Reply.{Reply}
 use Rattle.plain_site.specs.Site.{Site}
 use Rattle.plain_site.specs.Answers.{Answer, refused, when, refuse_found, unless}
-use Rattle.session_core.specs.declared.stops.Stop.{Stop}
-use Rattle.session_core.specs.declared.stops.Stop.TheVariants.{Refused, NoMemory}
+use Rattle.site_answers.specs.declared.stops.Stop.{Stop}
+use Rattle.site_answers.specs.declared.stops.Stop.TheVariants.{Refused, NoMemory}
 use Rattle.session_core.specs.Gives.{DoesOrStops, IsGiven, GivesOrStops, Stops}
 
 module _ (site : Site) (reply : Reply) (more : List (Option Reply)) (answer : Answer) where

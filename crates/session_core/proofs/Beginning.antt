@@ -29,7 +29,7 @@ use Rattle.plain_site.proofs.SoundCommits.{closed-above_own}
 use Rattle.session_core.specs.Core.{Core}
 use Rattle.session_core.specs.Stands.{CoreStands}
 use Rattle.session_core.specs.Gives.{IsGiven, Stops}
-use Rattle.session_core.specs.Stops.{begin_stop}
+use Rattle.site_answers.specs.Stops.{begin_stop}
 use Rattle.session_core.proofs.Answers.{skip, stop}
 use Rattle.session_core.proofs.Standing.{none-kept, no-txn-answer, txn-begun}
 

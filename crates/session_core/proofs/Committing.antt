@@ -52,7 +52,7 @@ use Rattle.session_core.specs.Core.{Core}
 use Rattle.session_core.specs.Held.{IsHeld}
 use Rattle.session_core.specs.Stands.{CoreStands, txn_of}
 use Rattle.session_core.specs.Gives.{IsGiven, Stops}
-use Rattle.session_core.specs.Stops.{add_stop}
+use Rattle.site_answers.specs.Stops.{add_stop}
 use Rattle.session_core.proofs.Answers.{skip, skip-found, stop-found, as-given}
 use Rattle.session_core.proofs.Standing.{txn-ended}
 use Rattle.session_core.proofs.Growing.{txn-slots-stay, txn-names-stay}

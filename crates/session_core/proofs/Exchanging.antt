@@ -57,8 +57,8 @@ use Rattle.session_core.specs.Core.{Core}
 use Rattle.session_core.specs.Held.{IsHeld}
 use Rattle.session_core.specs.Stands.{CoreStands}
 use Rattle.session_core.specs.Gives.{GivesOrStops, Stops}
-use Rattle.session_core.specs.Stops.{add_stop}
-use Rattle.session_core.specs.Exchange.{consent_reply}
+use Rattle.site_answers.specs.Stops.{add_stop}
+use Rattle.site_answers.specs.Told.{consent_reply}
 use Rattle.session_core.proofs.Answers.{skip, stop, skip-found, stop-found}
 use Rattle.session_core.proofs.Committing.{same-table-stands, below-open}
 use Rattle.session_core.proofs.Growing.{txn-slots-stay, txn-names-stay}

@@ -31,8 +31,8 @@ use Rattle.plain_site.specs.FloorSteps.{raised, raise}
 use Rattle.session_core.specs.Core.{Core}
 use Rattle.session_core.specs.Stands.{CoreStands}
 use Rattle.session_core.specs.Gives.{IsGiven, Stops}
-use Rattle.session_core.specs.Stops.{refusal_of}
-use Rattle.session_core.specs.declared.stops.Stop.TheVariants.{Refused as RefusedAs}
+use Rattle.site_answers.specs.Stops.{refusal_of}
+use Rattle.site_answers.specs.declared.stops.Stop.TheVariants.{Refused as RefusedAs}
 use Rattle.session_core.proofs.Answers.{skip, stop, as-given}
 use Rattle.session_core.proofs.OpenSessions.{same-floor, with-sessions, same-book}
 

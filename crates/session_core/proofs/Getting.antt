@@ -11,8 +11,8 @@ use Rattle.plain_site.specs.Answers.{Answer}
 use Rattle.plain_site.specs.Site.{Site}
 use Rattle.plain_site.specs.Sound.{IsSound}
 use Rattle.plain_site.specs.Step.{step}
-use Rattle.session_core.specs.declared.stops.Stop.{Stop}
-use Rattle.session_core.specs.declared.stops.Stop.TheVariants.{Refused, NoMemory}
+use Rattle.site_answers.specs.declared.stops.Stop.{Stop}
+use Rattle.site_answers.specs.declared.stops.Stop.TheVariants.{Refused, NoMemory}
 use Rattle.session_core.specs.Core.{Core}
 use Rattle.session_core.specs.Gives.{Does}
 use Rattle.session_core.specs.Machine.{SiteStands, IsTold, WritesOrStops, Wrote, opened_with}

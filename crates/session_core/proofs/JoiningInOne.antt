@@ -33,12 +33,13 @@ use Rattle.plain_site.proofs.SoundCommits.{MayJoin, own-next, conflicts-written}
 use Rattle.plain_site.proofs.SoundEntries.{changed-all, changed-length, changed-ascends, without_entry-ascends, entry-without_entry}
 use Rattle.session_core.specs.Core.{Core}
 use Rattle.session_core.specs.Guards.{RefusesBegins}
-use Rattle.session_core.specs.Gives.{Gives, GivesOrStops, IsGiven, ToldAs}
+use Rattle.site_answers.specs.Told.{ToldAs}
+use Rattle.session_core.specs.Gives.{Gives, GivesOrStops, IsGiven}
 use Rattle.session_core.specs.Joins.{begin_refusal, merge_in_one, IsMergeEnd, MayBeMerged}
 use Rattle.session_core.specs.Machine.{SiteStands, opened_with}
 use Rattle.session_core.specs.Stands.{CoreStands, StandsForSite}
-use Rattle.session_core.specs.declared.stops.Stop.{Stop}
-use Rattle.session_core.specs.declared.stops.Stop.TheVariants.{Refused, NoMemory}
+use Rattle.site_answers.specs.declared.stops.Stop.{Stop}
+use Rattle.site_answers.specs.declared.stops.Stop.TheVariants.{Refused, NoMemory}
 use Rattle.session_core.proofs.Settings.{HasSettingsOf, opened-same}
 
 -- the slots of the table have names

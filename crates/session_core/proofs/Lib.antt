@@ -17,8 +17,6 @@ pub mod Telling
 pub mod Getting
 pub mod Opening
 pub mod Asking
-pub mod Lending
-pub mod Ordering
 pub mod MergeShows
 pub mod Merging
 pub mod FloorMoves

@@ -17,8 +17,8 @@ use Rattle.plain_site.specs.Sound.{IsSound}
 use Rattle.plain_site.specs.Answers.{refused, refuse, refuse_found}
 use Rattle.plain_site.specs.Commits.{growth_refusals, committed, commit_below, commit_merge}
 use Rattle.plain_site.proofs.SoundCommits.{MayJoin, admitted-isnt_closed, conflicts-written}
-use Rattle.session_core.specs.declared.stops.Stop.{Stop}
-use Rattle.session_core.specs.declared.stops.Stop.TheVariants.{Refused, NoMemory}
+use Rattle.site_answers.specs.declared.stops.Stop.{Stop}
+use Rattle.site_answers.specs.declared.stops.Stop.TheVariants.{Refused, NoMemory}
 use Rattle.session_core.specs.Gives.{Stops}
 use Rattle.session_core.specs.Merges.{MayMerge}
 use Rattle.session_core.proofs.Answers.{skip, stop, skip-found, stop-found}

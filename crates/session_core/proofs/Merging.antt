@@ -30,13 +30,22 @@ use Rattle.merge_txn.specs.declared.Txn.{Txn as Kept}
 use Rattle.session_core.specs.Core.{Core}
 use Rattle.session_core.specs.Stands.{CoreStands}
 use Rattle.session_core.specs.Gives.{IsGiven, Stops}
-use Rattle.session_core.specs.Stops.{merge_stop}
+use Rattle.site_answers.specs.Stops.{merge_stop}
 use Rattle.session_core.proofs.Answers.{skip, stop}
 use Rattle.session_core.proofs.Standing.{txn-begun}
 use Rattle.session_core.proofs.Beginning.{collected-above}
-use Rattle.session_core.proofs.Ordering.{cons-parts}
 
 -- ===== The merge that is kept
+
+-- lists that are the same have the same first and the same rest
+cons-parts : {A : Type 0} (a : A) (as' : List A) (b : A) (bs : List A) → a ∷ as' ≡ b ∷ bs → (a ≡ b) × (as' ≡ bs)
+cons-parts a as' b bs same = (first a as' b bs same, rest a as' b bs same)
+  where
+    first : {A : Type 0} (a : A) (as' : List A) (b : A) (bs : List A) → a ∷ as' ≡ b ∷ bs → a ≡ b
+    first a as' b bs same = (cc)
+
+    rest : {A : Type 0} (a : A) (as' : List A) (b : A) (bs : List A) → a ∷ as' ≡ b ∷ bs → as' ≡ bs
+    rest a as' b bs same = (cc)
 
 -- these are the same states
 pub states-told : (xs ys : List StateId) → map (λ x. Some x) xs ≡ map (λ x. Some x) ys → xs ≡ ys

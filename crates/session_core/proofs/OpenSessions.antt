@@ -22,7 +22,7 @@ use Rattle.plain_site.specs.Sessions.{open_session, close_session}
 use Rattle.session_core.specs.Core.{Core}
 use Rattle.session_core.specs.Stands.{CoreStands}
 use Rattle.session_core.specs.Gives.{IsGiven, Stops}
-use Rattle.session_core.specs.Stops.{open_stop}
+use Rattle.site_answers.specs.Stops.{open_stop}
 use Rattle.session_core.proofs.Answers.{skip, stop, as-given}
 use Rattle.session_core.proofs.Standing.{open-session as open-before, session-answer, txn-ended}
 

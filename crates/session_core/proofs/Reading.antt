@@ -33,8 +33,8 @@ use Rattle.session_core.specs.Guards.{HasTxn}
 use Rattle.session_core.specs.Machine.{reading, NotesOrStops}
 use Rattle.session_core.specs.Reads.{ReadsAs}
 use Rattle.session_core.specs.Gives.{IsGiven, Stops, GivesOrStops}
-use Rattle.session_core.specs.declared.stops.Stop.{Stop}
-use Rattle.session_core.specs.Stops.{txn_stop}
+use Rattle.site_answers.specs.declared.stops.Stop.{Stop}
+use Rattle.site_answers.specs.Stops.{txn_stop}
 use Rattle.session_core.specs.declared.transactions.NotedRead.TheVariants.{Found as At, Fault}
 use Rattle.session_core.specs.NotedReads.{ReadsIn}
 use Rattle.txn_book.specs.Txns.{noting, NotedAs, slot_read, slot_unless}

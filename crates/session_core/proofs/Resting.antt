@@ -43,13 +43,14 @@ use Rattle.plain_site.proofs.SoundArrivals.{arrival-keeps}
 use Rattle.plain_site.proofs.SoundCommits.{conflicts-written}
 use Rattle.plain_site.proofs.SoundDeliveries.{IsWelcome}
 use Rattle.plain_site.proofs.SoundHistories.{next-is_new, unfound-at}
-use Rattle.session_core.specs.declared.stops.Stop.{Stop}
-use Rattle.session_core.specs.declared.stops.Stop.TheVariants.{Refused as StoppedBy, NoMemory}
+use Rattle.site_answers.specs.declared.stops.Stop.{Stop}
+use Rattle.site_answers.specs.declared.stops.Stop.TheVariants.{Refused as StoppedBy, NoMemory}
 use Rattle.session_core.specs.Core.{Core}
 use Rattle.session_core.specs.Stands.{CoreStands, StandsForSite}
 use Rattle.session_core.specs.Gives.{GivesOrStops, IsGiven, Stops}
 use Rattle.session_core.specs.Machine.{SiteStands, opened_with}
-use Rattle.session_core.specs.Rests.{TakenBy, TakesBack, KeepsSound, is_applied, TakenAs}
+use Rattle.site_answers.specs.Told.{is_applied, TakenAs}
+use Rattle.session_core.specs.Rests.{TakenBy, TakesBack, KeepsSound}
 use Rattle.session_core.proofs.Committing.{below-open}
 use Rattle.session_core.proofs.Exchanging.{none-first, within-six}
 use Rattle.session_core.proofs.FloorMoves.{with-floors}

@@ -48,7 +48,8 @@ use Rattle.session_core.specs.Held.{IsHeld}
 use Rattle.session_core.specs.Txns.{has_slots}
 use Rattle.session_core.specs.Stands.{txn_of, StandsForSite}
 use Rattle.session_core.specs.Machine.{SiteStands, opened_with}
-use Rattle.session_core.specs.Rests.{RowTakenBy, TakesRow, UntakenAs}
+use Rattle.site_answers.specs.Told.{UntakenAs}
+use Rattle.session_core.specs.Rests.{RowTakenBy, TakesRow}
 use Rattle.session_core.proofs.Settings.{opened-same}
 use Rattle.session_core.proofs.Standing.{kept-for}
 

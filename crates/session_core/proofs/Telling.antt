@@ -18,9 +18,10 @@ use Rattle.plain_site.proofs.RepliesFit.{replies-fit}
 use Rattle.plain_site.proofs.RepliesMemory.{never-wants-memory}
 use Rattle.plain_site.proofs.SoundRequests.{request-keeps-sound}
 use Rattle.session_core.specs.Core.{Core}
-use Rattle.session_core.specs.declared.stops.Stop.{Stop}
-use Rattle.session_core.specs.declared.stops.Stop.TheVariants.{Refused, NoMemory}
-use Rattle.session_core.specs.Gives.{Gives, GivesOrStops, IsGiven, NeedsNoMemory, ToldAs}
+use Rattle.site_answers.specs.declared.stops.Stop.{Stop}
+use Rattle.site_answers.specs.declared.stops.Stop.TheVariants.{Refused, NoMemory}
+use Rattle.site_answers.specs.Told.{ToldAs}
+use Rattle.session_core.specs.Gives.{Gives, GivesOrStops, IsGiven, NeedsNoMemory}
 use Rattle.session_core.specs.Machine.{SiteStands, IsTold, opened_with, writing}
 use Rattle.session_core.specs.Stands.{CoreStands, StandsForSite}
 use Rattle.session_core.proofs.Settings.{step-same, opened-same}

@@ -17,7 +17,7 @@ use Rattle.txn_book.specs.Txns.{putting, PutAs}
 use Rattle.session_core.specs.Txns.{IsNamed, has_slots}
 use Rattle.session_core.specs.Stands.{CoreStands, txn_of}
 use Rattle.session_core.specs.Gives.{IsGiven, Stops}
-use Rattle.session_core.specs.Stops.{txn_stop}
+use Rattle.site_answers.specs.Stops.{txn_stop}
 use Rattle.session_core.proofs.Answers.{skip, stop, as-given}
 use Rattle.session_core.proofs.Standing.{has-txn, has-answer, txn-changed, same-txns}
 

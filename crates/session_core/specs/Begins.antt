@@ -15,7 +15,7 @@ use Rattle.plain_site.specs.Site.{Site}
 use Rattle.plain_site.specs.Sound.{IsSound}
 use Rattle.plain_site.specs.Sessions.{begun}
 use Rattle.plain_site.specs.Merges.{merging, in_order}
-use Rattle.session_core.specs.declared.stops.Stop.{Stop}
+use Rattle.site_answers.specs.declared.stops.Stop.{Stop}
 use Rattle.session_core.specs.Core.{Core}
 use Rattle.session_core.specs.Stands.{CoreStands}
 use Rattle.session_core.specs.Gives.{GivesOrStops, DoesOrStops}

@@ -2,8 +2,6 @@
 use Rattle.std.specs.Prelude.{◌≡◌, ◌≢◌, ℕ, List, [], ◌∷◌, map, Some, Result, IsTrue, IsFalse}
 use Rattle.tardis_base.specs.declared.ids.StateId.{StateId}
 use Rattle.tardis_base.specs.declared.ids.Slot.{Slot}
-use Rattle.tardis_base.specs.declared.replies.Reply.{Reply}
-use Rattle.tardis_base.specs.declared.replies.Reply.TheVariants.{Committed as CommittedAs, Ended as EndedAt}
 use Rattle.tardis_base.specs.declared.requests.EndFlags.{EndFlags}
 use Rattle.tardis_base.specs.Ids.{is_among}
 use Rattle.tardis_base.specs.Keys.{KeyWrite, keys_of}
@@ -16,17 +14,12 @@ use Rattle.merge_txn.specs.declared.SingleTxn.{SingleTxn as OneKept}
 use Rattle.plain_site.specs.Site.{Site, Txn, SingleTxn, Single, own_count, writes_of, next_record}
 use Rattle.plain_site.specs.Sound.{IsSound}
 use Rattle.plain_site.specs.Commits.{commit_at, commit_below}
-use Rattle.session_core.specs.declared.commits.CommitEnd.{CommitEnd}
-use Rattle.session_core.specs.declared.commits.CommitEnd.TheVariants.{Committed, Ended}
-use Rattle.session_core.specs.declared.stops.Stop.{Stop}
+use Rattle.site_answers.specs.declared.gives.CommitEnd.{CommitEnd}
+use Rattle.site_answers.specs.declared.stops.Stop.{Stop}
 use Rattle.session_core.specs.Core.{Core}
 use Rattle.session_core.specs.Stands.{CoreStands}
 use Rattle.session_core.specs.Gives.{DoesOrStops}
-
--- the reply to a commit, by how the transaction ended
-abbrev pub commit_reply : CommitEnd → Reply
-commit_reply (Committed id parents) = CommittedAs id parents
-commit_reply (Ended state) = EndedAt state
+use Rattle.site_answers.specs.Told.{commit_reply}
 
 -- the slot of the state below which the single transaction commits, where nothing below its read state is collected
 abbrev pub IsLandingOf : Core → OneKept → EndFlags → Slot → Type 0

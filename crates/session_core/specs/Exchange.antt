@@ -1,13 +1,11 @@
 -- What deliveries answer, and how it is told of the records that wait.
-use Rattle.std.specs.Prelude.{◌≡◌, ◌<◌, ℕ, length, Option, Some, None, Result, Ok, Err, IfOk, slice_get}
+use Rattle.std.specs.Prelude.{◌≡◌, ◌<◌, ℕ, length, Option, Some, None, Result, IfOk, slice_get}
 use Rattle.std.specs.Option.{option_map}
 use Rattle.tardis_base.specs.declared.faults.NoMemory.{NoMemory as OutOfMemory}
 use Rattle.tardis_base.specs.declared.records.Record.{Record}
 use Rattle.tardis_base.specs.declared.replies.Reply.{Reply}
-use Rattle.tardis_base.specs.declared.replies.Reply.TheVariants.{Applied as IsApplied, Known as IsKnown, Early as IsEarly}
+use Rattle.tardis_base.specs.declared.replies.Reply.TheVariants.{Applied as IsApplied}
 use Rattle.record_store.specs.Answers.{MayArrive}
-use Rattle.ceiling_book.specs.declared.consents.ConsentEnd.{ConsentEnd}
-use Rattle.ceiling_book.specs.declared.consents.ConsentEnd.TheVariants.{Applied, Known, Early, Refused}
 use Rattle.site_exchange.specs.declared.judging.Judged.{Judged}
 use Rattle.site_exchange.specs.Judgements.{reply_of, first_reply, IsAddable}
 use Rattle.plain_site.specs.Site.{Site}
@@ -18,15 +16,7 @@ use Rattle.plain_site.specs.Exchange.{judgements, first_fit_record, settle_recor
 use Rattle.session_core.specs.Core.{Core}
 use Rattle.session_core.specs.Stands.{CoreStands}
 use Rattle.session_core.specs.Gives.{GivesOrStops}
-use Rattle.session_core.specs.declared.stops.Stop.{Stop}
-use Rattle.session_core.specs.declared.stops.Stop.TheVariants.{Refused as RefusedAs}
-
--- what is answered to a consent, by what became of it
-abbrev pub consent_reply : ConsentEnd → Result Reply Stop
-consent_reply Applied = Ok IsApplied
-consent_reply Known = Ok IsKnown
-consent_reply (Early have) = Ok (IsEarly have)
-consent_reply (Refused refusal) = Err (RefusedAs refusal)
+use Rattle.site_answers.specs.declared.stops.Stop.{Stop}
 
 -- the record is judged as each sound site judges it for which this stands; or there was no memory
 abbrev pub JudgedAs : Core → Record → Result Judged OutOfMemory → Type 0

@@ -1,8 +1,6 @@
 -- What a request gives.
 use Rattle.std.specs.Prelude.{◌≡◌, ⊤, ℕ, Some, Result, Ok, Err}
-use Rattle.tardis_base.specs.declared.faults.NoMemory.{NoMemory as OutOfMemory}
 use Rattle.tardis_base.specs.declared.replies.Reply.{Reply}
-use Rattle.tardis_base.specs.declared.replies.Reply.TheVariants.{Refused as RefusedWith}
 use Rattle.plain_dag.specs.Entries.{entry_of}
 use Rattle.plain_dag.specs.Floors.{Session}
 use Rattle.plain_site.specs.Site.{Site}
@@ -11,8 +9,8 @@ use Rattle.plain_site.specs.Sound.{IsSound}
 pub use Rattle.stored_site.specs.Gives.{IsGiven, Gives}
 use Rattle.session_core.specs.Core.{Core}
 use Rattle.session_core.specs.Stands.{CoreStands}
-use Rattle.session_core.specs.declared.stops.Stop.{Stop}
-use Rattle.session_core.specs.declared.stops.Stop.TheVariants.{Refused, NoMemory}
+use Rattle.site_answers.specs.declared.stops.Stop.{Stop}
+use Rattle.site_answers.specs.declared.stops.Stop.TheVariants.{Refused, NoMemory}
 
 -- what a stop leaves: what stands for the site as it was; and the plain answer is the refusal, where it is one
 abbrev pub Stops : (Site → Type 0) → Answer → Site → Stop → Type 0
@@ -49,10 +47,3 @@ abbrev pub NeedsNoMemory : {A : Type 0} → Result A Stop → Type 0
 NeedsNoMemory (Ok reply) = ⊤
 NeedsNoMemory (Err (Refused refusal)) = ⊤
 NeedsNoMemory (Err NoMemory) = ⊥
-
--- what is told: the reply, or the refusal as one; or that there was no memory
-abbrev pub ToldAs : Result Reply Stop → Result Reply OutOfMemory → Type 0
-ToldAs (Ok reply) told = told ≡ Ok reply
-ToldAs (Err (Refused refusal)) told = told ≡ Ok (RefusedWith refusal)
-ToldAs (Err NoMemory) (Ok reply) = ⊥
-ToldAs (Err NoMemory) (Err fault) = ⊤

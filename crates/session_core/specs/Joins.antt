@@ -9,7 +9,7 @@ use Rattle.plain_site.specs.Site.{Site}
 use Rattle.plain_site.specs.Sound.{IsSound}
 use Rattle.plain_site.specs.Commits.{commit_below}
 pub use Rattle.stored_site.specs.Joins.{begin_refusal, merge_in_one, IsMergeEnd, MayBeMerged}
-use Rattle.session_core.specs.declared.stops.Stop.{Stop}
+use Rattle.site_answers.specs.declared.stops.Stop.{Stop}
 use Rattle.session_core.specs.Core.{Core}
 use Rattle.session_core.specs.Stands.{CoreStands}
 use Rattle.session_core.specs.Gives.{GivesOrStops}

@@ -4,7 +4,6 @@ pub mod Txns
 pub mod Core
 pub mod Held
 pub mod Stands
-pub mod Stops
 pub mod Guards
 pub mod Gives
 pub mod Begins

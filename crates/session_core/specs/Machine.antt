@@ -1,6 +1,5 @@
 -- What the machine over the parts stands for, and what it answers.
-use Rattle.std.specs.Prelude.{◌≡◌, ℕ, List, [], Option, Some, None, Result, Ok, Err, IsTrue}
-use Rattle.tardis_base.specs.declared.replies.Refusal.TheVariants.{Malformed}
+use Rattle.std.specs.Prelude.{◌≡◌, ℕ, List, [], Some, None, Result, Ok, Err}
 use Rattle.tardis_base.specs.declared.replies.Reply.{Reply}
 use Rattle.tardis_base.specs.declared.ids.Slot.{Slot}
 use Rattle.tardis_base.specs.declared.ids.StateId.{StateId}
@@ -9,8 +8,6 @@ use Rattle.tardis_base.specs.declared.records.Write.TheVariants.{Put as Value, D
 use Rattle.tardis_base.specs.declared.requests.Request.{Request}
 use Rattle.tardis_base.specs.declared.requests.Request.TheVariants.{Put, Delete}
 use Rattle.wire_talk.specs.Spellings.{reply_spelling}
-use Rattle.wire_talk.specs.Valid.{is_request}
-use Rattle.wire_talk.specs.RequestReadings.{request_of}
 use Rattle.tardis_base.specs.Keys.{write_of}
 use Rattle.plain_dag.specs.Entries.{entry_of}
 use Rattle.plain_dag.specs.Writers.{read}
@@ -19,14 +16,14 @@ use Rattle.merge_txn.specs.declared.SingleTxn.{SingleTxn as OneKept}
 use Rattle.merge_txn.specs.declared.Txn.TheVariants.{Single as KeptSingle}
 use Rattle.plain_site.specs.Site.{Site, opening, with_txn_changed}
 use Rattle.plain_site.specs.Sound.{IsSound}
-use Rattle.plain_site.specs.Answers.{Answer, refused, with_txn, found}
+use Rattle.plain_site.specs.Answers.{Answer, with_txn, found}
 use Rattle.plain_site.specs.Reads.{get, having_read}
-use Rattle.plain_site.specs.Step.{step, step_over_bytes}
+use Rattle.plain_site.specs.Step.{step}
 pub use Rattle.stored_site.specs.Gives.{IsTold}
 use Rattle.session_core.specs.Core.{Core}
 use Rattle.session_core.specs.Gives.{Stops, GivesOrStops}
 use Rattle.session_core.specs.Stands.{CoreStands}
-use Rattle.session_core.specs.declared.stops.Stop.{Stop}
+use Rattle.site_answers.specs.declared.stops.Stop.{Stop}
 
 -- it stands for the plain site, which is sound
 abbrev pub SiteStands : Core → Site → Type 0
@@ -40,11 +37,6 @@ opened_with core = opening core.store.table.limits core.book.own
 abbrev pub GivesBytes : {E : Type 0} → (Site → Type 0) → Answer → Site → Result (Unit {0}) E → List ℕ → Type 0
 GivesBytes stands answer old (Ok done) bytes = stands answer.0 × (bytes ≡ reply_spelling answer.1)
 GivesBytes stands answer old (Err fault) bytes = stands old × (bytes ≡ [])
-
--- what the bytes ask for: the request that they spell; or nothing, and they are malformed, at any site
-abbrev pub AsksFor : List ℕ → Option Request → Type 0
-AsksFor bytes (Some q) = IsTrue (is_request q) × (request_of bytes ≡ Some q) × ((site : Site) (n : ℕ) → step_over_bytes site (n, bytes) ≡ step site n q)
-AsksFor bytes None = (site : Site) (n : ℕ) → step_over_bytes site (n, bytes) ≡ refused site Malformed
 
 -- the answer to a read of the key
 abbrev pub reading : Site → ℕ → List ℕ → Answer

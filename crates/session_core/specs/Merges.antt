@@ -1,19 +1,17 @@
 -- The merge of a session, and what is asked of it.
-use Rattle.std.specs.Prelude.{◌≡◌, ⊤, ℕ, true, false, not, ◌==◌, List, Option, Some, None, Result, Ok, Err, IsTrue, IsFalse}
+use Rattle.std.specs.Prelude.{◌≡◌, ⊤, ℕ, true, false, not, ◌==◌, List, Some, None, Result, Ok, Err}
 use Rattle.tardis_base.specs.declared.ids.StateId.{StateId}
 use Rattle.tardis_base.specs.declared.ids.Slot.{Slot}
 use Rattle.tardis_base.specs.declared.replies.Refusal.{Refusal}
 use Rattle.tardis_base.specs.declared.replies.Refusal.TheVariants.{WrongMode, OpenConflict}
 use Rattle.tardis_base.specs.declared.requests.EndFlags.{EndFlags}
-use Rattle.tardis_base.specs.Ids.{is_among}
 use Rattle.tardis_base.specs.Keys.{KeyWrite}
 use Rattle.plain_dag.specs.Conflicts.{open_conflict}
 use Rattle.plain_dag.specs.Floors.{Session}
-use Rattle.state_dag.specs.Table.{Table, id_at}
 use Rattle.plain_site.specs.Site.{Site, SingleTxn, Txn, Single}
 use Rattle.plain_site.specs.Answers.{Answer, refused, with_txn}
-use Rattle.session_core.specs.declared.stops.Stop.{Stop}
-use Rattle.session_core.specs.declared.stops.Stop.TheVariants.{Refused, NoMemory}
+use Rattle.site_answers.specs.declared.stops.Stop.{Stop}
+use Rattle.site_answers.specs.declared.stops.Stop.TheVariants.{Refused, NoMemory}
 
 -- it is asked of merges alone
 abbrev pub OnlyOfMerges : Site → (Session → Txn → Answer) → Type 0
@@ -30,8 +28,3 @@ MayMerge site xs ws flags (Err (Refused WrongMode)) = not (flags.0 == 0) ≡ tru
 MayMerge site xs ws flags (Err (Refused (OpenConflict k))) = (not (flags.0 == 0) ≡ false) × (open_conflict site.dag xs ws ≡ Some k)
 MayMerge site xs ws flags (Err (Refused refusal)) = ⊥
 MayMerge site xs ws flags (Err NoMemory) = ⊤
-
--- the slot is that of the state, which is one of these; or it is none of them
-abbrev pub IsSlotAmong : Table → List StateId → StateId → Option Slot → Type 0
-IsSlotAmong table xs x (Some slot) = IsTrue (is_among x xs) × (id_at table slot ≡ Some x)
-IsSlotAmong table xs x None = IsFalse (is_among x xs)

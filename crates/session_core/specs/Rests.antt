@@ -1,16 +1,11 @@
 -- What lasted of an earlier site is taken back.
-use Rattle.std.specs.Prelude.{◌≡◌, ℕ, ⊤, Bool, true, false, ◌&&◌, ◌==◌, length, [], ◌∷◌, is_none, Result, Ok, Err, IfOk, IsTrue, IsFalse}
+use Rattle.std.specs.Prelude.{◌≡◌, ℕ, Bool, true, false, ◌&&◌, ◌==◌, length, [], ◌∷◌, is_none, Result, Ok, Err, IfOk, IsTrue, IsFalse}
 use Rattle.tardis_base.specs.declared.faults.NoMemory.{NoMemory as OutOfMemory}
 use Rattle.tardis_base.specs.declared.records.Record.{Record}
 use Rattle.tardis_base.specs.declared.replies.Refusal.TheVariants.{OpenConflict}
-use Rattle.tardis_base.specs.declared.replies.Reply.{Reply}
 use Rattle.plain_dag.specs.Begin.{last_arrived}
 use Rattle.plain_dag.specs.Floors.{are_unpromised_above}
 use Rattle.plain_dag.specs.Conflicts.{open_conflict}
-use Rattle.state_dag.specs.declared.rows.RowFault.{RowFault}
-use Rattle.state_dag.specs.declared.rows.RowFault.TheVariants.{NoMemory as RowNoMemory}
-use Rattle.ceiling_book.specs.declared.consents.ConsentEnd.{ConsentEnd}
-use Rattle.ceiling_book.specs.declared.consents.ConsentEnd.TheVariants.{Applied}
 use Rattle.ceiling_book.specs.Book.{sessions_of}
 use Rattle.site_exchange.specs.Judgements.{first_reply}
 use Rattle.plain_site.specs.Site.{Site}
@@ -21,8 +16,6 @@ use Rattle.plain_site.specs.Rest.{Lasting, Collection, nameless, with_lasting, f
 use Rattle.plain_rows.specs.Rows.{with_row, fits_row}
 use Rattle.session_core.specs.Core.{Core}
 use Rattle.session_core.specs.Stands.{CoreStands}
-use Rattle.session_core.specs.declared.stops.Stop.{Stop}
-use Rattle.session_core.specs.declared.stops.Stop.TheVariants.{Refused, NoMemory}
 use Rattle.session_core.specs.Machine.{SiteStands}
 
 -- no session is open, and nothing waits
@@ -58,18 +51,6 @@ HasFitWrites core r result =
     (site : Site) → CoreStands core site
     → IfOk result (λ fit. fit ≡ is_none (first_reply (refuse_found OpenConflict (open_conflict site.dag r.parents r.writes) ∷ [])))
 
--- what came of a record that is welcome: it was taken, or there is no room; or there was no memory
-abbrev pub TakenAs : Result Reply Stop → Result Bool OutOfMemory → Type 0
-TakenAs (Ok reply) taken = taken ≡ Ok true
-TakenAs (Err (Refused refusal)) taken = taken ≡ Ok false
-TakenAs (Err NoMemory) (Ok answer) = ⊥
-TakenAs (Err NoMemory) (Err fault) = ⊤
-
--- the consent was taken
-abbrev pub is_applied : ConsentEnd → Bool
-is_applied Applied = true
-is_applied end = false
-
 -- ===== A row
 
 -- the row fits, and was taken; or it doesn't fit; or there was no memory; and where it wasn't taken all is as before
@@ -89,9 +70,3 @@ MayGoOn core may = (site : Site) → SiteStands core site → may ≡ (length si
 -- where it may go on a row of no states was taken, of one of the sites
 abbrev pub MovesFloors : Core → Core → (n : ℕ) → Bool → Type 0
 MovesFloors old new n result = MayGoOn old true → TakesRow old new n 0 (Ok result)
-
--- what is told of a row that did not arrive: there was no memory, or else it doesn't fit
-abbrev pub UntakenAs : RowFault → Result Bool OutOfMemory → Type 0
-UntakenAs RowNoMemory (Ok answer) = ⊥
-UntakenAs RowNoMemory (Err fault) = ⊤
-UntakenAs fault result = result ≡ Ok false

@@ -1,19 +1,16 @@
 //! The site as a machine over bytes.
 
-ghost use Rattle.std.specs.Prelude.{◌≡◌, ◌≤◌, Some, None, [], true, false, length, IsTrue, IsOk, IfOk, IfSome, OnErr};
+ghost use Rattle.std.specs.Prelude.{◌≡◌, Some, None, [], true, false, IsTrue, IsOk, IfOk, OnErr};
 ghost use Rattle.std.specs.List.{list_all};
 ghost use Rattle.std.specs.Option.{option_map_or};
-ghost use Rattle.tardis_base.specs.Sizes.{longest_frame};
 ghost use Rattle.tardis_base.specs.declared.requests.Request.{Request};
 ghost use Rattle.tardis_base.specs.Valid.{is_key};
 ghost use Rattle.state_dag.specs.Table.{is_slot};
 ghost use Rattle.version_list.specs.Reads.{found};
 ghost use Rattle.wire_talk.specs.RequestReadings.{request_of};
-ghost use Rattle.wire_talk.specs.Spellings.{reply_spelling};
-ghost use Rattle.wire_talk.specs.Valid.{is_commit, is_request, is_reply};
+ghost use Rattle.wire_talk.specs.Valid.{is_commit, is_request};
 ghost use Rattle.plain_site.specs.Site.{Site};
 ghost use Rattle.plain_site.specs.Sound.{IsSound};
-ghost use Rattle.plain_site.specs.Answers.{found as reply_to};
 ghost use Rattle.plain_site.specs.Step.{step, step_over_bytes, is_sure};
 ghost use Rattle.session_core.specs.Stands.{CoreStands, StandsForSite};
 ghost use Rattle.session_core.specs.Guards.{HasTxn};
@@ -22,81 +19,20 @@ ghost use Rattle.merge_txn.specs.declared.Txn.{Txn};
 ghost use Rattle.talk_bytes.specs.Lent.{request_lent};
 ghost use Rattle.txn_book.specs.Txns.{slot_read};
 ghost use Rattle.session_core.specs.Gives.{Gives};
-ghost use Rattle.session_core.specs.Machine.{AsksFor, SiteStands, GivesBytes, IsTold, opened_with, writing, Wrote};
+ghost use Rattle.session_core.specs.Machine.{SiteStands, GivesBytes, IsTold, opened_with, writing, Wrote};
 
-use crate::commits::CommitEnd;
-use crate::gives::{give_end, give_found, give_refused};
-use crate::reads_and_writes::own_write;
-use crate::stops::Stop;
 use crate::transactions::{NotedRead, read_noted};
 use crate::{Parts, SiteCore};
 use merge_txn::{MergeTxn, Txn};
-use std::alloc::Global;
-use talk_bytes::{LentRequest, read_lent, read_request, write_begun, write_done, write_reply};
-use tardis_base::{
-    Begin, EndFlags, Key, Machine, NoMemory, Over, ReadFault, Refusal, Reply, ReplyBuf, Request,
-    StateList, Value, Write,
+use site_answers::{
+    Stop, asked, asked_lent, give, give_end, give_found, give_refused, keep_room, key_of,
+    own_write, value_of,
 };
-use wire_talk::talk_has_one_spelling;
-
-/// The request that the bytes spell; None of other bytes, which are malformed.
-fn asked(alloc: Global, bytes: &[u8]) -> Result<Option<Request>, NoMemory>
-    ensures asked { IfOk result (λ asked. AsksFor bytes.now asked) }
-    ensures sure { (q : Request) → request_of bytes.now ≡ Some q → IsTrue (is_sure q) → IsOk result }
-{
-    talk_has_one_spelling();
-    match read_request(alloc, bytes) {
-        Ok(request) => Ok(Some(request)),
-        Err(ReadFault::Malformed) => Ok(None),
-        Err(ReadFault::NoMemory) => Err(NoMemory),
-    }
-}
-
-/// The request that the bytes spell, lent from them, where it is one that can be lent.
-fn asked_lent(bytes: &[u8]) -> Option<LentRequest<'_>>
-    ensures { IfSome result (λ lent. AsksFor bytes.now (Some (request_lent lent))) }
-{
-    talk_has_one_spelling();
-    read_lent(bytes)
-}
-
-/// The key of these bytes, which are copied.
-fn key_of(alloc: Global, bytes: &[u8]) -> Result<Key, NoMemory>
-    ensures { IfOk result (λ key. key ≡ bytes.now) }
-{
-    match Key::new(alloc, bytes) {
-        Ok(key) => Ok(key),
-        Err(_) => Err(NoMemory),
-    }
-}
-
-/// The value of these bytes, which are copied.
-fn value_of(alloc: Global, bytes: &[u8]) -> Result<Value, NoMemory>
-    ensures { IfOk result (λ value. value ≡ bytes.now) }
-{
-    match Value::new(alloc, bytes) {
-        Ok(value) => Ok(value),
-        Err(_) => Err(NoMemory),
-    }
-}
-
-/// Keeps the memory of the parents that were told.
-fn keep_room(told: &mut StateList, end: CommitEnd) {
-    match end {
-        CommitEnd::Committed { parents, .. } => *told = parents,
-        CommitEnd::Ended { .. } => {},
-    }
-}
-
-/// Writes the reply into the empty buffer.
-fn give(reply: &Reply, out: &mut ReplyBuf)
-    requires empty { out.old ≡ [] }
-    requires valid { IsTrue (is_reply reply.now) }
-    requires short { length (reply_spelling reply.now) ≤ longest_frame }
-    ensures { out.new ≡ reply_spelling reply.now }
-{
-    write_reply(reply, out);
-}
+use talk_bytes::{LentRequest, write_begun, write_done};
+use tardis_base::{
+    Begin, EndFlags, Key, Machine, NoMemory, Over, Refusal, Reply, ReplyBuf, Request, StateList,
+    Write,
+};
 
 impl Parts {
     /// Reads the key in the actor's transaction, notes the read, and writes the reply into the empty buffer; after a stop

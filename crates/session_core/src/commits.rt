@@ -12,25 +12,16 @@ ghost use Rattle.tardis_base.specs.declared.replies.Reply.{Reply};
 ghost use Rattle.session_core.specs.Stands.{CoreStands, StandsForSite};
 ghost use Rattle.session_core.specs.Gives.{Answers, Does, IsGiven, NeedsNoMemory};
 ghost use Rattle.session_core.specs.Merges.{MayMerge};
-ghost use Rattle.session_core.specs.Commits.{commit_reply, IsLandingOf, CommitsAt, CommitsBelow};
+ghost use Rattle.site_answers.specs.Told.{commit_reply};
+ghost use Rattle.session_core.specs.Commits.{IsLandingOf, CommitsAt, CommitsBelow};
 ghost use Rattle.session_core.specs.Txns.{IsNamed};
 
 use crate::Parts;
-use crate::merges::states_in;
-use crate::stops::Stop;
 use crate::transactions::commit_open;
 use conflict_keys::open_conflict;
 use merge_txn::{MergeTxn, SingleTxn, Txn};
+use site_answers::{CommitEnd, Stop, states_in};
 use tardis_base::{EndFlags, ListOf, Refusal, Reply, Slot, StateId, StateList};
-
-/// How a transaction ended that was to commit.
-#[derive(Drop)]
-pub enum CommitEnd {
-    /// It made this state, below these.
-    Committed { id: StateId, parents: StateList },
-    /// It wrote nothing, and read this state.
-    Ended { state: StateId },
-}
 
 impl Parts {
     /// Commits the actor's transaction: a merge below all its read states, a single one below its landing. A single one

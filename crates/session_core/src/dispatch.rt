@@ -7,14 +7,13 @@ ghost use Rattle.wire_talk.specs.Valid.{is_request};
 ghost use Rattle.plain_site.specs.Site.{Site};
 ghost use Rattle.plain_site.specs.Step.{step, is_sure};
 ghost use Rattle.plain_site.specs.Exchange.{deliver};
-ghost use Rattle.session_core.specs.Gives.{Answers, Gives, NeedsNoMemory, ToldAs};
+ghost use Rattle.session_core.specs.Gives.{Answers, Gives, NeedsNoMemory};
 ghost use Rattle.session_core.specs.Stands.{StandsForSite};
-ghost use Rattle.session_core.specs.Commits.{commit_reply};
+ghost use Rattle.site_answers.specs.Told.{commit_reply};
 ghost use Rattle.session_core.specs.Machine.{SiteStands, IsTold, opened_with};
 
-use crate::commits::CommitEnd;
-use crate::stops::Stop;
 use crate::{Parts, SiteCore};
+use site_answers::{Stop, commit_reply, told};
 use tardis_base::{Begin, EndFlags, Item, Key, NoMemory, Reply, Request, StateList, Value, Write};
 
 impl Parts {
@@ -91,27 +90,6 @@ impl Parts {
         ensures { Answers self.old self.new result (λ site. deliver site item.now) }
     {
         self.deliver(item.copy()?)
-    }
-}
-
-/// The reply to a commit.
-fn commit_reply(end: CommitEnd) -> Reply
-    ensures { result ≡ commit_reply end }
-{
-    match end {
-        CommitEnd::Committed { id, parents } => Reply::Committed { id, parents },
-        CommitEnd::Ended { state } => Reply::Ended { state },
-    }
-}
-
-/// A refusal is a reply.
-pub(crate) fn told(outcome: Result<Reply, Stop>) -> Result<Reply, NoMemory>
-    ensures { ToldAs outcome result }
-{
-    match outcome {
-        Ok(reply) => Ok(reply),
-        Err(Stop::Refused(refusal)) => Ok(Reply::Refused { refusal }),
-        Err(Stop::NoMemory) => Err(NoMemory),
     }
 }
 

@@ -14,12 +14,12 @@ ghost use Rattle.plain_site.specs.Exchange.{pull as pulled, deliver as delivered
 ghost use Rattle.plain_site.specs.Exchange.{deliver_consent as consent_delivered, settle as settled};
 ghost use Rattle.session_core.specs.Stands.{CoreStands};
 ghost use Rattle.session_core.specs.Gives.{Answers};
-ghost use Rattle.session_core.specs.Exchange.{consent_reply, JudgedAs, ArrivesAs, MaySettle, FindsFit, SettlesAt};
+ghost use Rattle.site_answers.specs.Told.{consent_reply};
+ghost use Rattle.session_core.specs.Exchange.{JudgedAs, ArrivesAs, MaySettle, FindsFit, SettlesAt};
 
 use crate::Parts;
-use crate::stops::Stop;
-use ceiling_book::ConsentEnd;
 use conflict_keys::open_conflict;
+use site_answers::{Stop, consent_reply};
 use site_exchange::{Judged, batch_for, judge_record};
 use tardis_base::{Consent, Item, NoMemory, Record, Refusal, Reply};
 
@@ -173,17 +173,5 @@ impl Parts {
         self.store.add_record(self.waiting.at(place))?;
         drop(self.waiting.take(place));
         Ok(Reply::Applied)
-    }
-}
-
-/// What is answered to a consent, by what became of it.
-fn consent_reply(end: ConsentEnd) -> Result<Reply, Stop>
-    ensures { result ≡ consent_reply end }
-{
-    match end {
-        ConsentEnd::Applied => Ok(Reply::Applied),
-        ConsentEnd::Known => Ok(Reply::Known),
-        ConsentEnd::Early { have } => Ok(Reply::Early { have }),
-        ConsentEnd::Refused(refusal) => Err(Stop::Refused(refusal)),
     }
 }

@@ -1,19 +1,16 @@
 //! Ceilings and floors move.
 
-ghost use Rattle.std.specs.Prelude.{◌≡◌};
 ghost use Rattle.plain_site.specs.Site.{Site};
 ghost use Rattle.plain_site.specs.Sound.{IsSound};
 ghost use Rattle.plain_site.specs.Answers.{without_txn};
 ghost use Rattle.plain_site.specs.Sessions.{set_ceiling as set_ceiling_of};
 ghost use Rattle.plain_site.specs.FloorSteps.{raise as raise_of, raise_auto as raise_auto_of, tidy as tidy_of};
-ghost use Rattle.session_core.specs.Stops.{refusal_of};
 ghost use Rattle.session_core.specs.Stands.{CoreStands, StandsForSite};
 ghost use Rattle.session_core.specs.Gives.{GivesOrStops, IsGiven, NeedsNoMemory};
 ghost use Rattle.session_core.specs.Rests.{Collects};
 
 use crate::Parts;
-use crate::stops::Stop;
-use ceiling_book::RaiseFault;
+use site_answers::{Stop, raise_refusal};
 use tardis_base::{Refusal, Reply, SeqEnd, StateId};
 
 impl Parts {
@@ -112,16 +109,5 @@ impl Parts {
         ensures { Collects self.old self.new count result }
     {
         path_compress::tidy(&mut self.store, &mut self.book, count)
-    }
-}
-
-/// What is answered where the floor does not move.
-fn raise_refusal(fault: RaiseFault) -> Refusal
-    ensures { result ≡ refusal_of fault }
-{
-    match fault {
-        RaiseFault::FloorBack { floor } => Refusal::FloorBack { floor },
-        RaiseFault::Held { session, ceiling } => Refusal::Held { session, ceiling },
-        RaiseFault::SeqEnd => Refusal::SeqEnd,
     }
 }

@@ -11,10 +11,8 @@ ghost use Rattle.session_core.specs.Gives.{Gives};
 ghost use Rattle.session_core.specs.Joins.{begin_refusal, merge_in_one, IsMergeEnd, MayBeMerged, WritesBelow, MergesBelow};
 ghost use Rattle.session_core.specs.Machine.{SiteStands, opened_with};
 
-use crate::dispatch::told;
-use crate::merges::states_of;
-use crate::stops::Stop;
 use crate::{Parts, SiteCore};
+use site_answers::{Stop, states_of, told};
 use tardis_base::{NoMemory, Refusal, Reply, Slot, StateId, WriteSet};
 
 impl Parts {

@@ -19,7 +19,6 @@ mod commits;
 mod dispatch;
 mod exchange;
 mod floors;
-mod gives;
 mod joins;
 mod merges;
 mod reads_and_writes;

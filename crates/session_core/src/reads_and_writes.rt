@@ -1,6 +1,6 @@
 //! Transactions read and write.
 
-ghost use Rattle.std.specs.Prelude.{◌≡◌, None, Some, is_some, IsTrue, IfOk};
+ghost use Rattle.std.specs.Prelude.{None, Some, is_some, IsTrue};
 ghost use Rattle.std.specs.List.{list_all};
 ghost use Rattle.tardis_base.specs.Ids.{root};
 ghost use Rattle.tardis_base.specs.Keys.{write_of};
@@ -8,7 +8,7 @@ ghost use Rattle.state_dag.specs.Table.{is_slot};
 ghost use Rattle.version_list.specs.Reads.{found};
 ghost use Rattle.plain_dag.specs.Entries.{entry_of};
 ghost use Rattle.plain_site.specs.Site.{Site};
-ghost use Rattle.plain_site.specs.Answers.{with_txn, found as reply_to};
+ghost use Rattle.plain_site.specs.Answers.{with_txn};
 ghost use Rattle.plain_site.specs.Reads.{get, set_key, get_for as got_for};
 ghost use Rattle.session_core.specs.Stands.{CoreStands};
 ghost use Rattle.tardis_base.specs.declared.replies.Reply.{Reply};
@@ -19,10 +19,9 @@ ghost use Rattle.session_core.specs.Reads.{ReadsAs};
 ghost use Rattle.session_core.specs.Txns.{IsNamed};
 
 use crate::Parts;
-use crate::merges::slot_among;
-use crate::stops::Stop;
 use conflict_keys::value_over;
 use merge_txn::{MergeTxn, Txn};
+use site_answers::{Stop, own_write, reply_of, slot_among};
 use tardis_base::{Found, Key, NoMemory, Over, Refusal, Reply, Slot, StateId, Write};
 
 impl Parts {
@@ -131,34 +130,5 @@ impl Parts {
             Some(slot) => Ok(reply_of(self.store.read_at(slot, key))?),
             None => Err(Stop::Refused(Refusal::NotRead { state })),
         }
-    }
-}
-
-/// What is found where a transaction itself has written.
-pub fn own_write(write: &Write) -> Found<'_>
-    ensures { found result ≡ Some (root, write.now) }
-{
-    match write {
-        Write::Put(value) => Found::Value {
-            writer: StateId::ROOT,
-            value,
-        },
-        Write::Delete => Found::Deleted {
-            writer: StateId::ROOT,
-        },
-    }
-}
-
-/// The reply to a read. The value is a copy.
-pub fn reply_of(what: Found<'_>) -> Result<Reply, NoMemory>
-    ensures { IfOk result (λ reply. reply ≡ reply_to (found what.entry)) }
-{
-    match what {
-        Found::Value { writer, value } => Ok(Reply::Value {
-            writer,
-            value: value.copy()?,
-        }),
-        Found::Deleted { writer } => Ok(Reply::Deleted { writer }),
-        Found::Absent => Ok(Reply::Absent),
     }
 }

@@ -11,15 +11,15 @@ ghost use Rattle.site_exchange.specs.Judgements.{reply_of, IsAddable};
 ghost use Rattle.plain_site.specs.Rest.{News};
 ghost use Rattle.session_core.specs.Stands.{StandsForSite};
 ghost use Rattle.session_core.specs.Machine.{opened_with};
-ghost use Rattle.session_core.specs.Rests.{is_quiet, TakesBack, Collects, KeepsSound, IsWelcomeTo, HasFitWrites, is_applied, TakenAs};
-ghost use Rattle.session_core.specs.Rests.{TakesRow, MayGoOn, MovesFloors, UntakenAs};
+ghost use Rattle.site_answers.specs.Told.{is_applied};
+ghost use Rattle.session_core.specs.Rests.{is_quiet, TakesBack, Collects, KeepsSound, IsWelcomeTo, HasFitWrites};
+ghost use Rattle.session_core.specs.Rests.{TakesRow, MayGoOn, MovesFloors};
 
-use crate::stops::Stop;
 use crate::{Parts, SiteCore};
-use ceiling_book::{CeilingBook, ConsentEnd};
+use ceiling_book::CeilingBook;
+use site_answers::{is_applied, taken, untaken};
 use site_exchange::{Judged, judge_nameless};
-use state_dag::RowFault;
-use tardis_base::{Consent, NoMemory, Record, Reply};
+use tardis_base::{Consent, NoMemory, Record};
 
 impl Parts {
     /// Takes the record into the history, an own one too, where nothing speaks against its delivery to a site of another number.
@@ -116,43 +116,6 @@ fn is_fit(judged: &Judged) -> bool
     match judged {
         Judged::Fit => true,
         _ => false,
-    }
-}
-
-/// Whether the consent was taken.
-fn is_applied(end: &ConsentEnd) -> bool
-    ensures { result ≡ is_applied end.now }
-{
-    match end {
-        ConsentEnd::Applied => true,
-        _ => false,
-    }
-}
-
-/// Whether a record that is welcome was added.
-fn taken(outcome: Result<Reply, Stop>) -> Result<bool, NoMemory>
-    ensures { TakenAs outcome result }
-{
-    match outcome {
-        Ok(reply) => {
-            drop(reply);
-            Ok(true)
-        },
-        Err(Stop::Refused(refusal)) => {
-            drop(refusal);
-            Ok(false)
-        },
-        Err(Stop::NoMemory) => Err(NoMemory),
-    }
-}
-
-/// What is told of a row that did not arrive.
-fn untaken(fault: RowFault) -> Result<bool, NoMemory>
-    ensures { UntakenAs fault result }
-{
-    match fault {
-        RowFault::NoMemory => Err(NoMemory),
-        _ => Ok(false),
     }
 }
 

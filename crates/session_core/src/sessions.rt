@@ -10,9 +10,9 @@ ghost use Rattle.session_core.specs.Gives.{Answers, Does, NeedsNoMemory};
 ghost use Rattle.session_core.specs.Begins.{ChoosesFor, BeginsAt};
 
 use crate::Parts;
-use crate::stops::Stop;
 use begin_rule::BeginFault;
 use merge_txn::Txn;
+use site_answers::Stop;
 use tardis_base::{Begin, Reply, Slot, StateId};
 
 impl Parts {

@@ -10,7 +10,7 @@ ghost use Rattle.session_core.specs.Stands.{CoreStands};
 ghost use Rattle.session_core.specs.Gives.{Answers, IsGiven};
 
 use crate::Parts;
-use crate::stops::Stop;
+use site_answers::Stop;
 use tardis_base::{Refusal, Reply, SiteLine, SiteLines, StateId, StateList};
 
 impl Parts {

@@ -9,7 +9,7 @@ use Rattle.plain_site.specs.Answers.{unless}
 use Rattle.plain_site.specs.Commits.{with_record, growth_refusals}
 use Rattle.session_core.specs.Held.{seen}
 use Rattle.session_core.specs.Stands.{CoreStands}
-use Rattle.session_core.specs.Stops.{add_stop}
+use Rattle.site_answers.specs.Stops.{add_stop}
 use Rattle.session_core.proofs.Answers.{as-given, stopped}
 use Rattle.session_core.proofs.Exchanging.{record-shape, fit-may-be-added, grown-site, grown-parts, growth-free, growth-stops}
 use Rattle.session_core.proofs.Parts.add.Goals as goal

@@ -3,7 +3,7 @@ use Rattle.plain_dag.specs.Begin.{begin_state}
 use Rattle.plain_site.specs.Answers.{without_txn}
 use Rattle.plain_site.specs.Sessions.{begin, begun}
 use Rattle.session_core.specs.Stands.{CoreStands}
-use Rattle.session_core.specs.Stops.{begin_stop}
+use Rattle.site_answers.specs.Stops.{begin_stop}
 use Rattle.session_core.proofs.Answers.{does-stop, as-done}
 use Rattle.session_core.proofs.Standing.{open-session}
 use Rattle.session_core.proofs.Beginning.{begin-chosen, begin-stops}

@@ -6,7 +6,7 @@ use Rattle.merge_txn.specs.declared.Txn.TheVariants.{Single as KeptSingle, Merge
 use Rattle.plain_site.specs.Site.{SingleTxn, MergeTxn, Merge}
 use Rattle.plain_site.specs.Answers.{with_txn}
 use Rattle.plain_site.specs.Commits.{commit, commit_at, commit_below}
-use Rattle.session_core.specs.Commits.{commit_reply}
+use Rattle.site_answers.specs.Told.{commit_reply}
 use Rattle.session_core.specs.Guards.{HasTxn}
 use Rattle.session_core.specs.Stands.{CoreStands}
 use Rattle.session_core.specs.Txns.{has_slots}

@@ -3,9 +3,9 @@ use Rattle.plain_site.specs.Site.{Single}
 use Rattle.plain_site.specs.Commits.{commit_at, commit_below}
 use Rattle.state_dag.specs.Table.{id_at}
 use Rattle.state_dag.specs.Stands.{Stands}
-use Rattle.session_core.specs.Commits.{commit_reply}
+use Rattle.site_answers.specs.Told.{commit_reply}
 use Rattle.session_core.specs.Stands.{CoreStands}
-use Rattle.session_core.specs.Stops.{branches_stop}
+use Rattle.site_answers.specs.Stops.{branches_stop}
 use Rattle.session_core.proofs.Answers.{does-stop, as-done}
 use Rattle.session_core.proofs.Committing.{passes-on, branches-stop, few-children}
 use Rattle.session_core.proofs.Parts.commit_at.Goals as goal

@@ -12,7 +12,7 @@ use Rattle.plain_site.specs.Commits.{commit_below}
 use Rattle.session_core.specs.Gives.{Stops}
 use Rattle.session_core.specs.Held.{seen}
 use Rattle.session_core.specs.Stands.{CoreStands}
-use Rattle.session_core.specs.Stops.{add_stop}
+use Rattle.site_answers.specs.Stops.{add_stop}
 use Rattle.session_core.proofs.Committing.{grown-held, commit-gives, commit-stops, may-commit, writes-as, told-parents}
 use Rattle.session_core.proofs.Parts.commit_below.Goals as goal
 

@@ -1,5 +1,5 @@
 use Rattle.tardis_base.specs.declared.requests.Request.TheVariants.{Commit}
-use Rattle.session_core.specs.Commits.{commit_reply}
+use Rattle.site_answers.specs.Told.{commit_reply}
 use Rattle.session_core.proofs.Getting.{done-told}
 use Rattle.session_core.proofs.Parts.commit_into.Goals as goal
 

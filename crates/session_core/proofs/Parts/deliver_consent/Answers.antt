@@ -9,7 +9,7 @@ use Rattle.plain_site.specs.Exchange.{deliver_consent}
 use Rattle.session_core.specs.Held.{seen}
 use Rattle.session_core.specs.Stands.{CoreStands}
 use Rattle.session_core.specs.Gives.{GivesOrStops}
-use Rattle.session_core.specs.Exchange.{consent_reply}
+use Rattle.site_answers.specs.Told.{consent_reply}
 use Rattle.session_core.proofs.Exchanging.{consent-gives}
 use Rattle.session_core.proofs.Parts.deliver_consent.Goals as goal
 

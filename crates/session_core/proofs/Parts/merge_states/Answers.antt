@@ -3,7 +3,7 @@ use Rattle.state_dag.specs.Table.{id_at}
 use Rattle.plain_site.specs.Merges.{merge_at, merging, in_order}
 use Rattle.session_core.specs.Held.{seen}
 use Rattle.session_core.specs.Stands.{CoreStands}
-use Rattle.session_core.specs.Stops.{merge_stop}
+use Rattle.site_answers.specs.Stops.{merge_stop}
 use Rattle.session_core.proofs.Answers.{stopped, as-answer}
 use Rattle.session_core.proofs.Merging.{all-chosen, merge-stops, chosen-under}
 use Rattle.session_core.proofs.Parts.merge_states.Goals as goal

@@ -14,7 +14,7 @@ use Rattle.plain_site.proofs.SoundCommits.{closed-above_own}
 use Rattle.session_core.specs.Held.{seen}
 use Rattle.session_core.specs.Stands.{CoreStands}
 use Rattle.session_core.specs.Gives.{GivesOrStops, Stops}
-use Rattle.session_core.specs.declared.stops.Stop.TheVariants.{Refused as RefusedAs}
+use Rattle.site_answers.specs.declared.stops.Stop.TheVariants.{Refused as RefusedAs}
 use Rattle.session_core.proofs.FloorMoves.{gone-above, past-known, raise-back, raise-gives, raise-stops}
 use Rattle.session_core.proofs.Growing.{named-is_slot}
 use Rattle.session_core.proofs.Parts.raise.Goals as goal

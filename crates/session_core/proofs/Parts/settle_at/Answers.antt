@@ -8,7 +8,7 @@ use Rattle.plain_site.specs.Exchange.{settle_record, with_settled}
 use Rattle.session_core.specs.Exchange.{MaySettle}
 use Rattle.session_core.specs.Held.{seen}
 use Rattle.session_core.specs.Stands.{CoreStands}
-use Rattle.session_core.specs.Stops.{add_stop}
+use Rattle.site_answers.specs.Stops.{add_stop}
 use Rattle.session_core.proofs.Answers.{as-given, stopped}
 use Rattle.session_core.proofs.Exchanging.{record-shape, at-valid, fit-arrives, growth-free, growth-stops, settled-site, settled-parts}
 use Rattle.session_core.proofs.Parts.settle_at.Goals as goal

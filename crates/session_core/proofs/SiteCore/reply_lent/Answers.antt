@@ -5,7 +5,7 @@ use Rattle.talk_bytes.specs.Lent.{request_lent}
 use Rattle.session_core.specs.Machine.{SiteStands, GivesBytes, opened_with}
 use Rattle.session_core.proofs.Getting.{refusal-told, wrote-stands, wrote-opening, is-written, is-refused, is-short}
 use Rattle.session_core.proofs.Telling.{small}
-use Rattle.session_core.proofs.Lending.{lent-unsure}
+use Rattle.session_core.proofs.Asking.{lent-unsure}
 use Rattle.session_core.proofs.SiteCore.reply_lent.Goals as goal
 use Rattle.session_core.proofs.SiteCore.reply_lent.Goals.{in-Ok, in-Err-Refused, in-Err-NoMemory}
 

@@ -3,7 +3,8 @@ use Rattle.tardis_base.specs.declared.replies.Refusal.TheVariants.{Malformed}
 use Rattle.wire_talk.specs.Spellings.{reply_spelling}
 use Rattle.plain_site.specs.Answers.{Answer, refused}
 use Rattle.plain_site.specs.Step.{step_over_bytes}
-use Rattle.session_core.specs.Machine.{AsksFor, GivesBytes, SiteStands}
+use Rattle.site_answers.specs.Asks.{AsksFor}
+use Rattle.session_core.specs.Machine.{GivesBytes, SiteStands}
 use Rattle.session_core.proofs.Asking.{asked-sure}
 use Rattle.session_core.proofs.SiteCore.reply_to_bytes.Goals as goal
 

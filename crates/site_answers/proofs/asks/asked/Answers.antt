@@ -1,6 +1,6 @@
 use Rattle.std.proofs.Common.{Err, ap, ◌∙◌}
-use Rattle.session_core.proofs.Asking.{sure-takes_none}
-use Rattle.session_core.proofs.bytes.asked.Goals as goal
+use Rattle.site_answers.proofs.Asking.{sure-takes_none}
+use Rattle.site_answers.proofs.asks.asked.Goals as goal
 
 pub returns-in-Err-NoMemory-clause-sure : goal.returns-in-Err-NoMemory-clause-sure
 returns-in-Err-NoMemory-clause-sure c = λ q is sure.

@@ -17,8 +17,8 @@ use Rattle.ceiling_book.specs.declared.floors.RaiseFault.TheVariants.{FloorBack,
 use Rattle.end_rule.specs.declared.Branches.{Branches}
 use Rattle.merge_txn.specs.declared.TxnFault.{TxnFault}
 use Rattle.merge_txn.specs.declared.TxnFault.TheVariants.{TooMany, NoMemory as NoMemoryToNote}
-use Rattle.session_core.specs.declared.stops.Stop.{Stop}
-use Rattle.session_core.specs.declared.stops.Stop.TheVariants.{Refused, NoMemory}
+use Rattle.site_answers.specs.declared.stops.Stop.{Stop}
+use Rattle.site_answers.specs.declared.stops.Stop.TheVariants.{Refused, NoMemory}
 
 abbrev pub begin_stop : BeginFault → Stop
 begin_stop (Unknown x) = Refused (IsUnknown x)

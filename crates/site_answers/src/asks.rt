@@ -1,0 +1,54 @@
+//! What bytes ask for.
+
+ghost use Rattle.std.specs.Prelude.{◌≡◌, Some, IsTrue, IsOk, IfOk, IfSome};
+ghost use Rattle.tardis_base.specs.declared.requests.Request.{Request};
+ghost use Rattle.wire_talk.specs.RequestReadings.{request_of};
+ghost use Rattle.talk_bytes.specs.Lent.{request_lent};
+ghost use Rattle.plain_site.specs.Step.{is_sure};
+ghost use Rattle.site_answers.specs.Asks.{AsksFor};
+
+use std::alloc::Global;
+use talk_bytes::{LentRequest, read_lent, read_request};
+use tardis_base::{Key, NoMemory, ReadFault, Request, Value};
+use wire_talk::talk_has_one_spelling;
+
+/// The request that the bytes spell; None of other bytes, which are malformed.
+pub fn asked(alloc: Global, bytes: &[u8]) -> Result<Option<Request>, NoMemory>
+    ensures asked { IfOk result (λ asked. AsksFor bytes.now asked) }
+    ensures sure { (q : Request) → request_of bytes.now ≡ Some q → IsTrue (is_sure q) → IsOk result }
+{
+    talk_has_one_spelling();
+    match read_request(alloc, bytes) {
+        Ok(request) => Ok(Some(request)),
+        Err(ReadFault::Malformed) => Ok(None),
+        Err(ReadFault::NoMemory) => Err(NoMemory),
+    }
+}
+
+/// The request that the bytes spell, lent from them, where it is one that can be lent.
+pub fn asked_lent(bytes: &[u8]) -> Option<LentRequest<'_>>
+    ensures { IfSome result (λ lent. AsksFor bytes.now (Some (request_lent lent))) }
+{
+    talk_has_one_spelling();
+    read_lent(bytes)
+}
+
+/// The key of these bytes, which are copied.
+pub fn key_of(alloc: Global, bytes: &[u8]) -> Result<Key, NoMemory>
+    ensures { IfOk result (λ key. key ≡ bytes.now) }
+{
+    match Key::new(alloc, bytes) {
+        Ok(key) => Ok(key),
+        Err(_) => Err(NoMemory),
+    }
+}
+
+/// The value of these bytes, which are copied.
+pub fn value_of(alloc: Global, bytes: &[u8]) -> Result<Value, NoMemory>
+    ensures { IfOk result (λ value. value ≡ bytes.now) }
+{
+    match Value::new(alloc, bytes) {
+        Ok(value) => Ok(value),
+        Err(_) => Err(NoMemory),
+    }
+}
