@@ -16,11 +16,23 @@ use tardis_io::{Dial, Failed, Gate};
 ///
 /// A Unix socket's path that a dead server left is taken over; a living one's isn't, and what stands at the path and is
 /// no socket stays. A link is closed when it is put back.
-#[derive(Drop)]
+///
+/// How it is let go is written here, so that the crates above needn't prove it of what it is made of.
 pub struct SocketGate<'a, R> {
     rt: &'a R,
     door: Option<Door>,
     faults: u64,
+}
+
+impl<R> Drop for SocketGate<'_, R> {
+    fn drop(self) {
+        let SocketGate {
+            rt: _,
+            door,
+            faults: _,
+        } = self;
+        drop(door);
+    }
 }
 
 /// A dial that connects over sockets. Each error of the system is counted. A link is closed when it is put back.

@@ -10,12 +10,25 @@ use tardis_io::{Duplex, Failed, Link, Sink};
 /// A link over a socket. Each error of the system is counted, on the side where it came, and so is a write that takes
 /// nothing; what was interrupted is tried again. An error in telling the other side that no more bytes will come is
 /// counted as one of writing.
-#[derive(Drop)]
+///
+/// How it is let go is written here, so that the crates above needn't prove it of what it is made of.
 pub struct SocketLink {
     stream: Stream,
     read_faults: u64,
     write_faults: u64,
     finished: bool,
+}
+
+impl Drop for SocketLink {
+    fn drop(self) {
+        let SocketLink {
+            stream,
+            read_faults: _,
+            write_faults: _,
+            finished: _,
+        } = self;
+        drop(stream);
+    }
 }
 
 impl SocketLink {
