@@ -7,12 +7,9 @@ ghost use Rattle.std.specs.Prelude.{◌≡◌};
 ghost use Rattle.std.specs.Process.{exit_status};
 ghost use Rattle.tardis_io.specs.Statuses.{status_number};
 
-mod gates;
-
 use disk_forms::FileStore;
-use gates::{TellingDial, TellingGate};
 use session_core::SiteCore;
-use socket_links::{SocketDial, SocketGate};
+use socket_links::{SocketDial, SocketGate, TellingDial, TellingGate};
 use std::alloc::Global;
 use std::env::{self, Args};
 use std::fs::{File, Files};

@@ -5,3 +5,5 @@ mod Unserved
 mod Unexported
 mod Helping
 mod Others
+mod Carrying
+mod Lacking

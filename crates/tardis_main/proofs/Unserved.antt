@@ -5,7 +5,8 @@ use Rattle.tardis_io.specs.declared.duplexes.Duplex.{Ghosts as ADuplex}
 use Rattle.tardis_io.specs.declared.gates.Gate.{Ghosts as AGate}
 use Rattle.tardis_io.specs.declared.gates.Dial.{Ghosts as ADial}
 use Rattle.tardis_io.specs.declared.faults.WriteFault.{WriteFault as NotWritten}
-use Rattle.tardis_io.specs.declared.statuses.Status.TheVariants.{Usage, NoMemory}
+use Rattle.tardis_io.specs.declared.statuses.Status.{Status}
+use Rattle.tardis_io.specs.declared.statuses.Status.TheVariants.{Ok as Well, Usage, NoMemory, WriteFault, GateFault, DialFault}
 use Rattle.tardis_io.specs.Statuses.{status_number}
 use Rattle.serve_pool.specs.declared.ends.PoolEnd.{PoolEnd}
 use Rattle.serve_pool.specs.declared.ends.PoolEnd.TheVariants.{Done as AllServed, GateFault as NextFailed}
@@ -32,6 +33,27 @@ pub never_usage : (end : ServeEnd) → status_after end ≡ Usage → ⊥
 never_usage NotBound e = absurd (omega (arith, ap status_number e))
 never_usage NotMade e = absurd (omega (arith, ap status_number e))
 never_usage (Served s) e = served_never (nat_lt 0 s.unserved || rounds_lack_memory s.rounds) s.gate s.written (has_dial_fault s.rounds) e
+
+-- a server's ends tell of no fault of reading or of the disk
+abbrev pub IsServerEnd : Status → Type 0
+IsServerEnd Well = Unit {0}
+IsServerEnd NoMemory = Unit {0}
+IsServerEnd WriteFault = Unit {0}
+IsServerEnd GateFault = Unit {0}
+IsServerEnd DialFault = Unit {0}
+IsServerEnd _ = ⊥
+
+served_so : (lacks : Bool) (g : PoolEnd) (w : Result (Unit {0}) NotWritten) (d : Bool) → IsServerEnd (cond lacks NoMemory (status_served g w d))
+served_so true g w d = tt
+served_so false NextFailed w d = tt
+served_so false AllServed (Err x) d = tt
+served_so false AllServed (Ok u) true = tt
+served_so false AllServed (Ok u) false = tt
+
+pub ends_so : (end : ServeEnd) → IsServerEnd (status_after end)
+ends_so NotBound = tt
+ends_so NotMade = tt
+ends_so (Served s) = served_so (nat_lt 0 s.unserved || rounds_lack_memory s.rounds) s.gate s.written (has_dial_fault s.rounds)
 
 module _ {M L G X D O : Type 0} (opened : M → Site) (g : AGate G L) (l : ADuplex L) (gives : ASink L) (d : ADial D X) (x : ADuplex X) (dialled : ASink X) (o : ASink O)
     (gate : G) (dial : D) (output : O) where

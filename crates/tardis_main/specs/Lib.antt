@@ -2,4 +2,5 @@
 pub mod Words
 pub mod Helps
 pub mod Program
+pub mod Carried
 pub mod Laws

@@ -13,28 +13,21 @@ ghost use Rattle.tardis_main.specs.Program.{Audits, Autos, Durables, Exports, Im
 
 mod helps;
 mod laws;
+mod obeying;
 mod plans;
 mod programs;
 
-use auto_run::auto;
-use branch_export::run_import;
-use command_words::{Command, WordsFault, commands_are_at_a_site, read_words};
 use disk_store::Store;
-use durable_run::durable;
-use export_run::export;
 pub use helps::{USAGE, VERSION, help_text};
 pub use laws::replies_have_lines;
-use load_run::run_load;
-use plans::serve_plan;
+use obeying::obey;
 pub use programs::carry_out;
-use site_commands::{audit_frames, run, shell};
 use std::alloc::Global;
 use std::hash::RandomState;
 use std::sync::Wait;
 use std::thread::Threads;
 use stored_site::StoredSite;
 use tardis_io::{Dial, Gate, Sink, Source, Status};
-use world_core::run_world;
 
 /// Carries out the command that the words name, by sites of this kind, at the place among the sites that they name. Words without a
 /// form are `Status::Usage`; then nothing is read, written, listened to, called or opened.
@@ -83,62 +76,5 @@ pub fn tardis<
     ensures dial { CausedBy Status.DialFault (D.faults dial.old) (D.faults dial.new) result }
     ensures disk { CausedBy Status.DiskFault (S.faults store.old) (S.faults store.new) result }
 {
-    match read_words(alloc, words) {
-        Ok(Command::Run(place)) => run::<A, I, O>(
-            alloc,
-            keys,
-            place.limits(),
-            place.site,
-            input,
-            output,
-        ),
-        Ok(Command::Shell(place)) => {
-            shell::<A, I, O>(alloc, keys, place.limits(), place.site, input, output)
-        }
-        Ok(Command::Audit(place)) => {
-            audit_frames::<A, I, O>(alloc, keys, place.limits(), place.site, input, output)
-        }
-        Ok(Command::World { sites }) => run_world::<A, I, O>(alloc, keys, sites, input, output),
-        Ok(Command::Serve(plan)) => {
-            commands_are_at_a_site();
-            serve_plan::<A, O, G, D, R>(alloc, rt, keys, &plan, gate, dial, output)
-        }
-        Ok(Command::Load { start, steps }) => run_load::<A, O>(alloc, keys, start, steps, output),
-        Ok(Command::Auto { place, rules }) => {
-            auto::<A, I, O>(
-                alloc,
-                keys,
-                place.limits(),
-                place.site,
-                rules,
-                input,
-                output,
-            )
-        }
-        Ok(Command::Export { place, state }) => export::<A, I, O>(
-            alloc,
-            keys,
-            place.limits(),
-            place.site,
-            state,
-            input,
-            output,
-        ),
-        Ok(Command::Import) => run_import(alloc, input, output),
-        Ok(Command::Durable { place, path }) => durable::<A, S, I, O>(
-            alloc,
-            keys,
-            place.limits(),
-            place.site,
-            path.as_str(),
-            store,
-            input,
-            output,
-        ),
-        Err(WordsFault::Usage) => Status::Usage,
-        Err(WordsFault::NoMemory) => {
-            commands_are_at_a_site();
-            Status::NoMemory
-        }
-    }
+    obey::<A, I, O, G, D, S, R>(alloc, rt, keys, words, input, output, gate, dial, store)
 }

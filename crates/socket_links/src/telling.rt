@@ -6,15 +6,24 @@ use std::io::Eprint;
 use tardis_io::{Dial, Failed, Gate};
 
 /// A gate that writes a line on standard error once it listens, so that whoever started the program knows that links may
-/// come.
-#[derive(Drop)]
-pub(crate) struct TellingGate<'a, R, G> {
+/// come. Where standard error is closed, nobody waits for the line: that it couldn't be written is no fault. All else it
+/// does as the gate behind it.
+///
+/// How it is let go is written here, so that the crates above needn't prove it of what it is made of.
+pub struct TellingGate<'a, R, G> {
     rt: &'a R,
     gate: G,
 }
 
+impl<R, G: Drop> Drop for TellingGate<'_, R, G> {
+    fn drop(self) {
+        let TellingGate { rt: _, gate } = self;
+        drop(gate);
+    }
+}
+
 impl<'a, R, G> TellingGate<'a, R, G> {
-    pub(crate) fn new(rt: &'a R, gate: G) -> TellingGate<'a, R, G>
+    pub fn new(rt: &'a R, gate: G) -> TellingGate<'a, R, G>
         ensures { result.gate ≡ gate }
     {
         TellingGate { rt, gate }
@@ -32,7 +41,6 @@ impl<R: Eprint, G: Gate> Gate for TellingGate<'_, R, G> {
 
     fn bind(&mut self, address: &str) -> Result<(), Failed> {
         self.gate.bind(address)?;
-        // where standard error is closed, nobody waits for the line
         let _ = self
             .rt
             .eprintln(format_args!("tardis: listens at {address}"));
@@ -49,15 +57,15 @@ impl<R: Eprint, G: Gate> Gate for TellingGate<'_, R, G> {
 }
 
 /// A dial that writes a line on standard error for each call that fails, so that whoever started the program knows which
-/// peers aren't there.
+/// peers aren't there. All else it does as the dial behind it.
 #[derive(Drop)]
-pub(crate) struct TellingDial<'a, R, D> {
+pub struct TellingDial<'a, R, D> {
     rt: &'a R,
     dial: D,
 }
 
 impl<'a, R, D> TellingDial<'a, R, D> {
-    pub(crate) fn new(rt: &'a R, dial: D) -> TellingDial<'a, R, D>
+    pub fn new(rt: &'a R, dial: D) -> TellingDial<'a, R, D>
         ensures { result.dial ≡ dial }
     {
         TellingDial { rt, dial }
