@@ -19,7 +19,7 @@ use Rattle.site_commands.specs.Runs.{RunFrom, ShellFrom, AuditFrom}
 use Rattle.site_commands.specs.Ends.{FramesEnd, LinesEnd}
 use Rattle.tardis_main.proofs.Others.{no_fault, OnlyUsage, OnlyMemory}
 use Rattle.tardis_main.proofs.Unserved.{never_usage, IsServerEnd, ends_so}
-use Rattle.tardis_main.proofs.Lacking.{no_copy}
+use Rattle.tardis_main.proofs.Lacking.{nothing_done}
 use Rattle.tardis_main.proofs.Carrying.{of_form, none_is_no_form, unknown_at_none}
 use Rattle.tardis_main.proofs.obeying.obey.Goals as goal
 
@@ -403,14 +403,9 @@ pub returns-in-Err-NoMemory-clause-disk : goal.returns-in-Err-NoMemory-clause-di
 returns-in-Err-NoMemory-clause-disk g c = no_fault OnlyMemory DiskFault (g.S.Store.faults c.args.store.now) NoMemory tt (λ no. no)
 
 pub returns-in-Err-NoMemory-clause-carried : goal.returns-in-Err-NoMemory-clause-carried
-returns-in-Err-NoMemory-clause-carried g c =
-    let no = c.in-Err-NoMemory.ensures.memory (ap (λ fault. Err fault) c.in-Err-NoMemory.field-0-is) in
-    of_form g.A.AnySite.opened g.I.Source g.O.Sink g.G.Gate g.G.Link.Duplex g.G.Link.Sink g.D.Dial g.D.Link.Duplex g.D.Link.Sink g.S.Store g.S.Disk.Disk
-    c.args.input.now c.args.input.now c.args.output.now c.args.output.now c.args.gate.now c.args.gate.now c.args.dial.now c.args.dial.now c.args.store.now c.args.store.now
-    (map (λ w. string_bytes w) c.args.words.now) NoMemory no.0 no.1.0
-    (no_copy g.A.AnySite.opened g.I.Source g.O.Sink g.G.Gate g.G.Link.Duplex g.G.Link.Sink g.D.Dial g.D.Link.Duplex g.D.Link.Sink g.S.Store g.S.Disk.Disk
+returns-in-Err-NoMemory-clause-carried g c = nothing_done g.A.AnySite.opened g.I.Source g.O.Sink g.G.Gate g.G.Link.Duplex g.G.Link.Sink g.D.Dial g.D.Link.Duplex g.D.Link.Sink g.S.Store g.S.Disk.Disk
     c.args.input.now c.args.output.now c.args.gate.now c.args.dial.now c.args.store.now (map (λ w. string_bytes w) c.args.words.now)
-    c.commands_are_at_a_site-in-Err-NoMemory.ensures.auto no.0 no.1.0 no.1.1)
+    c.commands_are_at_a_site-in-Err-NoMemory.ensures.run c.commands_are_at_a_site-in-Err-NoMemory.ensures.shell c.commands_are_at_a_site-in-Err-NoMemory.ensures.audit c.commands_are_at_a_site-in-Err-NoMemory.ensures.auto c.commands_are_at_a_site-in-Err-NoMemory.ensures.export
 
 pub returns-in-Err-Usage-clause-carried : goal.returns-in-Err-Usage-clause-carried
 returns-in-Err-Usage-clause-carried g c = λ said is. absurd (none_is_no_form said (sym (c.in-Err-Usage.ensures.usage (ap (λ fault. Err fault) c.in-Err-Usage.field-0-is)) ∙ is))
