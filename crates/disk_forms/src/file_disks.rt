@@ -23,13 +23,28 @@ const LONGEST: u64 = 1 << 63;
 /// A replacement is written to a file beside it, which then takes its name; this disk is that one from then on. Where that
 /// file couldn't be written, or couldn't get the name, all is as before, and no fault is counted; it is told why on standard
 /// error, once until one is made. It is a fault where the name may be gone after a crash.
-#[derive(Drop)]
+///
+/// How it is let go is written here, so that the crates above needn't prove it of what it is made of.
 pub struct FileDisk<R> {
     file: fs::File,
     path: Option<FilePath<R>>,
     was_cut: bool,
     is_told: bool,
     faults: u64,
+}
+
+impl<R: Drop> Drop for FileDisk<R> {
+    fn drop(self) {
+        let FileDisk {
+            file,
+            path,
+            was_cut: _,
+            is_told: _,
+            faults: _,
+        } = self;
+        drop(file);
+        drop(path);
+    }
 }
 
 impl<R: Drop> FileDisk<R> {
