@@ -2,7 +2,7 @@
 use Rattle.std.specs.Prelude.{◌≡◌, ℕ, List}
 use Rattle.tardis_io.specs.Told.{WhileTold}
 use Rattle.tardis_io.specs.declared.statuses.Status.{Status}
-use Rattle.tardis_io.specs.declared.statuses.Status.TheVariants.{NoMemory}
+use Rattle.tardis_io.specs.declared.statuses.Status.TheVariants.{NoMemory, ReadFault, WriteFault, GateFault, DialFault, DiskFault}
 use Rattle.tardis_io.specs.declared.streams.Source.{Ghosts as ASource}
 use Rattle.tardis_io.specs.declared.streams.Sink.{Ghosts as ASink}
 use Rattle.tardis_io.specs.declared.duplexes.Duplex.{Ghosts as ADuplex}
@@ -20,7 +20,7 @@ use Rattle.load_run.specs.Lines.{load_line}
 use Rattle.auto_run.specs.Outcomes.{AutoFrom}
 use Rattle.durable_run.specs.Commands.{DurableEnds}
 use Rattle.site_commands.specs.Runs.{RunFrom, ShellFrom, AuditFrom}
-use Rattle.site_commands.specs.Ends.{FramesEnd, LinesEnd, ServerEnds}
+use Rattle.site_commands.specs.Ends.{CausedBy, FramesEnd, LinesEnd, ServerEnds}
 use Rattle.tardis_main.specs.Program.{ExportEnds, ImportEnds, site_at, work_of}
 
 -- a command over input and output ended so, and touched nothing else
@@ -41,6 +41,14 @@ pub record Stored {G D : Type 0} (gate gate_now : G) (dial dial_now : D) (Ends :
   pub ends : Ends
   pub same_gate : gate_now ≡ gate
   pub same_dial : dial_now ≡ dial
+
+-- no count of faults fell, and the status tells only of a fault that was counted: of reading, writing, the gate, the dial or the disk
+pub record AreCaused (reads reads_now writes writes_now gates gates_now dials dials_now disks disks_now : ℕ) (status : Status) : Type 0 where
+  pub read : CausedBy ReadFault reads reads_now status
+  pub write : CausedBy WriteFault writes writes_now status
+  pub gate : CausedBy GateFault gates gates_now status
+  pub dial : CausedBy DialFault dials dials_now status
+  pub disk : CausedBy DiskFault disks disks_now status
 
 -- over these devices, from what they were before to what they are now, with this status
 module _ {M L G X D O I K S : Type 0} (opened : M → Site) (i : ASource I) (o : ASink O) (g : AGate G L) (l : ADuplex L) (gives : ASink L) (d : ADial D X)

@@ -3,9 +3,8 @@
 ghost use Rattle.std.specs.Prelude.{◌≡◌, Some, map};
 ghost use Rattle.std.specs.String.{string_bytes};
 ghost use Rattle.command_words.specs.Forms.{Form, form};
-ghost use Rattle.site_commands.specs.Ends.{CausedBy};
 ghost use Rattle.tardis_main.specs.Words.{AreUnknown};
-ghost use Rattle.tardis_main.specs.Carried.{CarriedOut};
+ghost use Rattle.tardis_main.specs.Carried.{AreCaused, CarriedOut};
 
 use crate::plans::serve_plan;
 use auto_run::auto;
@@ -50,11 +49,8 @@ pub(crate) fn obey<
     ensures carried { (said : Form) → form (map (λ w. string_bytes w) words.now) ≡ Some said
         → CarriedOut A.opened I.Source O.Sink G.Gate G.Link.Duplex.own G.Link.Sink D.Dial D.Link.Duplex.own D.Link.Sink S.Store S.Disk.Disk
         input.old input.new output.old output.new gate.old gate.new dial.old dial.new store.old store.new (map (λ w. string_bytes w) words.now) result said }
-    ensures read { CausedBy Status.ReadFault (I.faults input.old) (I.faults input.new) result }
-    ensures write { CausedBy Status.WriteFault (O.faults output.old) (O.faults output.new) result }
-    ensures gate { CausedBy Status.GateFault (G.faults gate.old) (G.faults gate.new) result }
-    ensures dial { CausedBy Status.DialFault (D.faults dial.old) (D.faults dial.new) result }
-    ensures disk { CausedBy Status.DiskFault (S.faults store.old) (S.faults store.new) result }
+    ensures faults { AreCaused (I.faults input.old) (I.faults input.new) (O.faults output.old) (O.faults output.new) (G.faults gate.old) (G.faults gate.new)
+        (D.faults dial.old) (D.faults dial.new) (S.faults store.old) (S.faults store.new) result }
 {
     match read_words(alloc, words) {
         Ok(Command::Run(place)) => run::<A, I, O>(

@@ -77,16 +77,16 @@ pub returns-clause-unknown : goal.returns-clause-unknown
 returns-clause-unknown g c = c.obey.ensures.unknown
 
 pub returns-clause-read : goal.returns-clause-read
-returns-clause-read g c = c.obey.ensures.read
+returns-clause-read g c = c.obey.ensures.faults.read
 
 pub returns-clause-write : goal.returns-clause-write
-returns-clause-write g c = c.obey.ensures.write
+returns-clause-write g c = c.obey.ensures.faults.write
 
 pub returns-clause-gate : goal.returns-clause-gate
-returns-clause-gate g c = c.obey.ensures.gate
+returns-clause-gate g c = c.obey.ensures.faults.gate
 
 pub returns-clause-dial : goal.returns-clause-dial
-returns-clause-dial g c = c.obey.ensures.dial
+returns-clause-dial g c = c.obey.ensures.faults.dial
 
 pub returns-clause-disk : goal.returns-clause-disk
-returns-clause-disk g c = c.obey.ensures.disk
+returns-clause-disk g c = c.obey.ensures.faults.disk

@@ -105,78 +105,6 @@ pub returns-in-Ok-Serve-clause-unknown : goal.returns-in-Ok-Serve-clause-unknown
 returns-in-Ok-Serve-clause-unknown g c = λ unknown. absurd (unknown (AsServe (serving_of c.in-Ok-Serve.plan))
     (c.in-Ok-Serve.ensures.form ∙ ap (λ command. Some (form_of command)) c.in-Ok-Serve.field-0-is))
 
-pub returns-in-Ok-Run-clause-gate : goal.returns-in-Ok-Run-clause-gate
-returns-in-Ok-Run-clause-gate g c = no_fault IsRunEnd GateFault (g.G.Gate.faults c.args.gate.now) c.run.result c.run.ensures.ends.end (λ no. no)
-
-pub returns-in-Ok-Run-clause-dial : goal.returns-in-Ok-Run-clause-dial
-returns-in-Ok-Run-clause-dial g c = no_fault IsRunEnd DialFault (g.D.Dial.faults c.args.dial.now) c.run.result c.run.ensures.ends.end (λ no. no)
-
-pub returns-in-Ok-Run-clause-disk : goal.returns-in-Ok-Run-clause-disk
-returns-in-Ok-Run-clause-disk g c = no_fault IsRunEnd DiskFault (g.S.Store.faults c.args.store.now) c.run.result c.run.ensures.ends.end (λ no. no)
-
-pub returns-in-Ok-Shell-clause-gate : goal.returns-in-Ok-Shell-clause-gate
-returns-in-Ok-Shell-clause-gate g c = no_fault IsLineEnd GateFault (g.G.Gate.faults c.args.gate.now) c.shell.result c.shell.ensures.ends.end (λ no. no)
-
-pub returns-in-Ok-Shell-clause-dial : goal.returns-in-Ok-Shell-clause-dial
-returns-in-Ok-Shell-clause-dial g c = no_fault IsLineEnd DialFault (g.D.Dial.faults c.args.dial.now) c.shell.result c.shell.ensures.ends.end (λ no. no)
-
-pub returns-in-Ok-Shell-clause-disk : goal.returns-in-Ok-Shell-clause-disk
-returns-in-Ok-Shell-clause-disk g c = no_fault IsLineEnd DiskFault (g.S.Store.faults c.args.store.now) c.shell.result c.shell.ensures.ends.end (λ no. no)
-
-pub returns-in-Ok-Audit-clause-gate : goal.returns-in-Ok-Audit-clause-gate
-returns-in-Ok-Audit-clause-gate g c = no_fault IsRunEnd GateFault (g.G.Gate.faults c.args.gate.now) c.audit_frames.result c.audit_frames.ensures.ends.end (λ no. no)
-
-pub returns-in-Ok-Audit-clause-dial : goal.returns-in-Ok-Audit-clause-dial
-returns-in-Ok-Audit-clause-dial g c = no_fault IsRunEnd DialFault (g.D.Dial.faults c.args.dial.now) c.audit_frames.result c.audit_frames.ensures.ends.end (λ no. no)
-
-pub returns-in-Ok-Audit-clause-disk : goal.returns-in-Ok-Audit-clause-disk
-returns-in-Ok-Audit-clause-disk g c = no_fault IsRunEnd DiskFault (g.S.Store.faults c.args.store.now) c.audit_frames.result c.audit_frames.ensures.ends.end (λ no. no)
-
-pub returns-in-Ok-World-clause-gate : goal.returns-in-Ok-World-clause-gate
-returns-in-Ok-World-clause-gate g c = no_fault IsRunEnd GateFault (g.G.Gate.faults c.args.gate.now) c.run_world.result c.run_world.ensures.status (λ no. no)
-
-pub returns-in-Ok-World-clause-dial : goal.returns-in-Ok-World-clause-dial
-returns-in-Ok-World-clause-dial g c = no_fault IsRunEnd DialFault (g.D.Dial.faults c.args.dial.now) c.run_world.result c.run_world.ensures.status (λ no. no)
-
-pub returns-in-Ok-World-clause-disk : goal.returns-in-Ok-World-clause-disk
-returns-in-Ok-World-clause-disk g c = no_fault IsRunEnd DiskFault (g.S.Store.faults c.args.store.now) c.run_world.result c.run_world.ensures.status (λ no. no)
-
-pub returns-in-Ok-Load-clause-gate : goal.returns-in-Ok-Load-clause-gate
-returns-in-Ok-Load-clause-gate g c = no_fault IsLoadEnd GateFault (g.G.Gate.faults c.args.gate.now) c.run_load.result c.run_load.ensures.status (λ no. no)
-
-pub returns-in-Ok-Load-clause-dial : goal.returns-in-Ok-Load-clause-dial
-returns-in-Ok-Load-clause-dial g c = no_fault IsLoadEnd DialFault (g.D.Dial.faults c.args.dial.now) c.run_load.result c.run_load.ensures.status (λ no. no)
-
-pub returns-in-Ok-Load-clause-disk : goal.returns-in-Ok-Load-clause-disk
-returns-in-Ok-Load-clause-disk g c = no_fault IsLoadEnd DiskFault (g.S.Store.faults c.args.store.now) c.run_load.result c.run_load.ensures.status (λ no. no)
-
-pub returns-in-Ok-Auto-clause-gate : goal.returns-in-Ok-Auto-clause-gate
-returns-in-Ok-Auto-clause-gate g c = no_fault IsLineEnd GateFault (g.G.Gate.faults c.args.gate.now) c.auto.result c.auto.ensures.ends.end (λ no. no)
-
-pub returns-in-Ok-Auto-clause-dial : goal.returns-in-Ok-Auto-clause-dial
-returns-in-Ok-Auto-clause-dial g c = no_fault IsLineEnd DialFault (g.D.Dial.faults c.args.dial.now) c.auto.result c.auto.ensures.ends.end (λ no. no)
-
-pub returns-in-Ok-Auto-clause-disk : goal.returns-in-Ok-Auto-clause-disk
-returns-in-Ok-Auto-clause-disk g c = no_fault IsLineEnd DiskFault (g.S.Store.faults c.args.store.now) c.auto.result c.auto.ensures.ends.end (λ no. no)
-
-pub returns-in-Ok-Export-clause-gate : goal.returns-in-Ok-Export-clause-gate
-returns-in-Ok-Export-clause-gate g c = no_fault (IsExportEnd c.in-Ok-Export.state) GateFault (g.G.Gate.faults c.args.gate.now) c.export.result c.export.ensures.status (λ no. no)
-
-pub returns-in-Ok-Export-clause-dial : goal.returns-in-Ok-Export-clause-dial
-returns-in-Ok-Export-clause-dial g c = no_fault (IsExportEnd c.in-Ok-Export.state) DialFault (g.D.Dial.faults c.args.dial.now) c.export.result c.export.ensures.status (λ no. no)
-
-pub returns-in-Ok-Export-clause-disk : goal.returns-in-Ok-Export-clause-disk
-returns-in-Ok-Export-clause-disk g c = no_fault (IsExportEnd c.in-Ok-Export.state) DiskFault (g.S.Store.faults c.args.store.now) c.export.result c.export.ensures.status (λ no. no)
-
-pub returns-in-Ok-Import-clause-gate : goal.returns-in-Ok-Import-clause-gate
-returns-in-Ok-Import-clause-gate g c = no_fault IsImportEnd GateFault (g.G.Gate.faults c.args.gate.now) c.run_import.result c.run_import.ensures.status (λ no. no)
-
-pub returns-in-Ok-Import-clause-dial : goal.returns-in-Ok-Import-clause-dial
-returns-in-Ok-Import-clause-dial g c = no_fault IsImportEnd DialFault (g.D.Dial.faults c.args.dial.now) c.run_import.result c.run_import.ensures.status (λ no. no)
-
-pub returns-in-Ok-Import-clause-disk : goal.returns-in-Ok-Import-clause-disk
-returns-in-Ok-Import-clause-disk g c = no_fault IsImportEnd DiskFault (g.S.Store.faults c.args.store.now) c.run_import.result c.run_import.ensures.status (λ no. no)
-
 pub returns-in-Ok-Run-clause-carried : goal.returns-in-Ok-Run-clause-carried
 returns-in-Ok-Run-clause-carried g c = of_form g.A.AnySite.opened g.I.Source g.O.Sink g.G.Gate g.G.Link.Duplex g.G.Link.Sink g.D.Dial g.D.Link.Duplex g.D.Link.Sink g.S.Store g.S.Disk.Disk
     c.args.input.now c.run.new.input c.args.output.now c.run.new.output c.args.gate.now c.args.gate.now c.args.dial.now c.args.dial.now c.args.store.now c.args.store.now
@@ -189,12 +117,6 @@ returns-in-Ok-Run-clause-carried g c = of_form g.A.AnySite.opened g.I.Source g.O
       same_dial = refl;
       same_store = refl;
     })
-
-pub returns-in-Ok-Run-clause-read : goal.returns-in-Ok-Run-clause-read
-returns-in-Ok-Run-clause-read g c = c.run.ensures.read
-
-pub returns-in-Ok-Run-clause-write : goal.returns-in-Ok-Run-clause-write
-returns-in-Ok-Run-clause-write g c = c.run.ensures.write
 
 pub returns-in-Ok-Shell-clause-carried : goal.returns-in-Ok-Shell-clause-carried
 returns-in-Ok-Shell-clause-carried g c = of_form g.A.AnySite.opened g.I.Source g.O.Sink g.G.Gate g.G.Link.Duplex g.G.Link.Sink g.D.Dial g.D.Link.Duplex g.D.Link.Sink g.S.Store g.S.Disk.Disk
@@ -209,12 +131,6 @@ returns-in-Ok-Shell-clause-carried g c = of_form g.A.AnySite.opened g.I.Source g
       same_store = refl;
     })
 
-pub returns-in-Ok-Shell-clause-read : goal.returns-in-Ok-Shell-clause-read
-returns-in-Ok-Shell-clause-read g c = c.shell.ensures.read
-
-pub returns-in-Ok-Shell-clause-write : goal.returns-in-Ok-Shell-clause-write
-returns-in-Ok-Shell-clause-write g c = c.shell.ensures.write
-
 pub returns-in-Ok-Audit-clause-carried : goal.returns-in-Ok-Audit-clause-carried
 returns-in-Ok-Audit-clause-carried g c = of_form g.A.AnySite.opened g.I.Source g.O.Sink g.G.Gate g.G.Link.Duplex g.G.Link.Sink g.D.Dial g.D.Link.Duplex g.D.Link.Sink g.S.Store g.S.Disk.Disk
     c.args.input.now c.audit_frames.new.input c.args.output.now c.audit_frames.new.output c.args.gate.now c.args.gate.now c.args.dial.now c.args.dial.now c.args.store.now c.args.store.now
@@ -228,24 +144,12 @@ returns-in-Ok-Audit-clause-carried g c = of_form g.A.AnySite.opened g.I.Source g
       same_store = refl;
     })
 
-pub returns-in-Ok-Audit-clause-read : goal.returns-in-Ok-Audit-clause-read
-returns-in-Ok-Audit-clause-read g c = c.audit_frames.ensures.read
-
-pub returns-in-Ok-Audit-clause-write : goal.returns-in-Ok-Audit-clause-write
-returns-in-Ok-Audit-clause-write g c = c.audit_frames.ensures.write
-
 pub returns-in-Ok-World-clause-carried : goal.returns-in-Ok-World-clause-carried
 returns-in-Ok-World-clause-carried g c = of_form g.A.AnySite.opened g.I.Source g.O.Sink g.G.Gate g.G.Link.Duplex g.G.Link.Sink g.D.Dial g.D.Link.Duplex g.D.Link.Sink g.S.Store g.S.Disk.Disk
     c.args.input.now c.run_world.new.input c.args.output.now c.run_world.new.output c.args.gate.now c.args.gate.now c.args.dial.now c.args.dial.now c.args.store.now c.args.store.now
     (map (λ w. string_bytes w) c.args.words.now) c.run_world.result
     (AsWorld c.in-Ok-World.sites) (c.in-Ok-World.ensures.form ∙ ap (λ command. Some (form_of command)) c.in-Ok-World.field-0-is)
     (record { ends = record { outcome = c.run_world.ensures.outcome; exact = c.run_world.ensures.exact; end = c.run_world.ensures.status; nothing = c.run_world.ensures.nothing }; same_gate = refl; same_dial = refl; same_store = refl })
-
-pub returns-in-Ok-World-clause-read : goal.returns-in-Ok-World-clause-read
-returns-in-Ok-World-clause-read g c = record { later = c.run_world.ensures.read_later; cause = c.run_world.ensures.read }
-
-pub returns-in-Ok-World-clause-write : goal.returns-in-Ok-World-clause-write
-returns-in-Ok-World-clause-write g c = record { later = c.run_world.ensures.write_later; cause = c.run_world.ensures.write }
 
 pub returns-in-Ok-Serve-clause-carried : goal.returns-in-Ok-Serve-clause-carried
 returns-in-Ok-Serve-clause-carried g c = of_form g.A.AnySite.opened g.I.Source g.O.Sink g.G.Gate g.G.Link.Duplex g.G.Link.Sink g.D.Dial g.D.Link.Duplex g.D.Link.Sink g.S.Store g.S.Disk.Disk
@@ -254,35 +158,12 @@ returns-in-Ok-Serve-clause-carried g c = of_form g.A.AnySite.opened g.I.Source g
     (AsServe (serving_of c.in-Ok-Serve.plan)) (c.in-Ok-Serve.ensures.form ∙ ap (λ command. Some (form_of command)) c.in-Ok-Serve.field-0-is)
     (record { ends = c.serve_plan.ensures.ends; same_input = refl; same_store = refl })
 
-pub returns-in-Ok-Serve-clause-write : goal.returns-in-Ok-Serve-clause-write
-returns-in-Ok-Serve-clause-write g c = c.serve_plan.ensures.write
-
-pub returns-in-Ok-Serve-clause-gate : goal.returns-in-Ok-Serve-clause-gate
-returns-in-Ok-Serve-clause-gate g c = c.serve_plan.ensures.gate
-
-pub returns-in-Ok-Serve-clause-dial : goal.returns-in-Ok-Serve-clause-dial
-returns-in-Ok-Serve-clause-dial g c = c.serve_plan.ensures.dial
-
-pub returns-in-Ok-Serve-clause-read : goal.returns-in-Ok-Serve-clause-read
-returns-in-Ok-Serve-clause-read g c = no_fault IsServerEnd ReadFault (g.I.Source.faults c.args.input.now) c.serve_plan.result
-    (subst IsServerEnd (sym c.serve_plan.ensures.ends.judged) (ends_so c.serve_plan.ensures.ends.end)) (λ no. no)
-
-pub returns-in-Ok-Serve-clause-disk : goal.returns-in-Ok-Serve-clause-disk
-returns-in-Ok-Serve-clause-disk g c = no_fault IsServerEnd DiskFault (g.S.Store.faults c.args.store.now) c.serve_plan.result
-    (subst IsServerEnd (sym c.serve_plan.ensures.ends.judged) (ends_so c.serve_plan.ensures.ends.end)) (λ no. no)
-
 pub returns-in-Ok-Load-clause-carried : goal.returns-in-Ok-Load-clause-carried
 returns-in-Ok-Load-clause-carried g c = of_form g.A.AnySite.opened g.I.Source g.O.Sink g.G.Gate g.G.Link.Duplex g.G.Link.Sink g.D.Dial g.D.Link.Duplex g.D.Link.Sink g.S.Store g.S.Disk.Disk
     c.args.input.now c.args.input.now c.args.output.now c.run_load.new.output c.args.gate.now c.args.gate.now c.args.dial.now c.args.dial.now c.args.store.now c.args.store.now
     (map (λ w. string_bytes w) c.args.words.now) c.run_load.result
     (AsLoad c.in-Ok-Load.start c.in-Ok-Load.steps) (c.in-Ok-Load.ensures.form ∙ ap (λ command. Some (form_of command)) c.in-Ok-Load.field-0-is)
     (record { ends = (c.run_load.ensures.line, c.run_load.ensures.status, c.run_load.ensures.nothing, refl); same_gate = refl; same_dial = refl; same_store = refl })
-
-pub returns-in-Ok-Load-clause-read : goal.returns-in-Ok-Load-clause-read
-returns-in-Ok-Load-clause-read g c = no_fault IsLoadEnd ReadFault (g.I.Source.faults c.args.input.now) c.run_load.result c.run_load.ensures.status (λ no. no)
-
-pub returns-in-Ok-Load-clause-write : goal.returns-in-Ok-Load-clause-write
-returns-in-Ok-Load-clause-write g c = record { later = c.run_load.ensures.write_later; cause = c.run_load.ensures.write }
 
 pub returns-in-Ok-Auto-clause-carried : goal.returns-in-Ok-Auto-clause-carried
 returns-in-Ok-Auto-clause-carried g c = of_form g.A.AnySite.opened g.I.Source g.O.Sink g.G.Gate g.G.Link.Duplex g.G.Link.Sink g.D.Dial g.D.Link.Duplex g.D.Link.Sink g.S.Store g.S.Disk.Disk
@@ -296,12 +177,6 @@ returns-in-Ok-Auto-clause-carried g c = of_form g.A.AnySite.opened g.I.Source g.
       same_dial = refl;
       same_store = refl;
     })
-
-pub returns-in-Ok-Auto-clause-read : goal.returns-in-Ok-Auto-clause-read
-returns-in-Ok-Auto-clause-read g c = c.auto.ensures.read
-
-pub returns-in-Ok-Auto-clause-write : goal.returns-in-Ok-Auto-clause-write
-returns-in-Ok-Auto-clause-write g c = c.auto.ensures.write
 
 pub returns-in-Ok-Export-clause-carried : goal.returns-in-Ok-Export-clause-carried
 returns-in-Ok-Export-clause-carried g c = of_form g.A.AnySite.opened g.I.Source g.O.Sink g.G.Gate g.G.Link.Duplex g.G.Link.Sink g.D.Dial g.D.Link.Duplex g.D.Link.Sink g.S.Store g.S.Disk.Disk
@@ -323,24 +198,12 @@ returns-in-Ok-Export-clause-carried g c = of_form g.A.AnySite.opened g.I.Source 
       same_store = refl;
     })
 
-pub returns-in-Ok-Export-clause-read : goal.returns-in-Ok-Export-clause-read
-returns-in-Ok-Export-clause-read g c = record { later = c.export.ensures.read_later; cause = c.export.ensures.read }
-
-pub returns-in-Ok-Export-clause-write : goal.returns-in-Ok-Export-clause-write
-returns-in-Ok-Export-clause-write g c = record { later = c.export.ensures.write_later; cause = c.export.ensures.write }
-
 pub returns-in-Ok-Import-clause-carried : goal.returns-in-Ok-Import-clause-carried
 returns-in-Ok-Import-clause-carried g c = of_form g.A.AnySite.opened g.I.Source g.O.Sink g.G.Gate g.G.Link.Duplex g.G.Link.Sink g.D.Dial g.D.Link.Duplex g.D.Link.Sink g.S.Store g.S.Disk.Disk
     c.args.input.now c.run_import.new.input c.args.output.now c.run_import.new.output c.args.gate.now c.args.gate.now c.args.dial.now c.args.dial.now c.args.store.now c.args.store.now
     (map (λ w. string_bytes w) c.args.words.now) c.run_import.result
     AsImport (c.in-Ok-Import.ensures.form ∙ ap (λ command. Some (form_of command)) c.in-Ok-Import.field-0-is)
     (record { ends = record { outcome = c.run_import.ensures.outcome; exact = c.run_import.ensures.exact; end = c.run_import.ensures.status; nothing = c.run_import.ensures.nothing }; same_gate = refl; same_dial = refl; same_store = refl })
-
-pub returns-in-Ok-Import-clause-read : goal.returns-in-Ok-Import-clause-read
-returns-in-Ok-Import-clause-read g c = record { later = c.run_import.ensures.read_later; cause = c.run_import.ensures.read }
-
-pub returns-in-Ok-Import-clause-write : goal.returns-in-Ok-Import-clause-write
-returns-in-Ok-Import-clause-write g c = record { later = c.run_import.ensures.write_later; cause = c.run_import.ensures.write }
 
 pub returns-in-Ok-Durable-clause-carried : goal.returns-in-Ok-Durable-clause-carried
 returns-in-Ok-Durable-clause-carried g c = of_form g.A.AnySite.opened g.I.Source g.O.Sink g.G.Gate g.G.Link.Duplex g.G.Link.Sink g.D.Dial g.D.Link.Duplex g.D.Link.Sink g.S.Store g.S.Disk.Disk
@@ -354,53 +217,8 @@ returns-in-Ok-Durable-clause-carried g c = of_form g.A.AnySite.opened g.I.Source
       same_dial = refl;
     })
 
-pub returns-in-Ok-Durable-clause-read : goal.returns-in-Ok-Durable-clause-read
-returns-in-Ok-Durable-clause-read g c = c.durable.ensures.read
-
-pub returns-in-Ok-Durable-clause-write : goal.returns-in-Ok-Durable-clause-write
-returns-in-Ok-Durable-clause-write g c = c.durable.ensures.write
-
-pub returns-in-Ok-Durable-clause-disk : goal.returns-in-Ok-Durable-clause-disk
-returns-in-Ok-Durable-clause-disk g c = c.durable.ensures.disk
-
-pub returns-in-Ok-Durable-clause-gate : goal.returns-in-Ok-Durable-clause-gate
-returns-in-Ok-Durable-clause-gate g c = no_fault (λ s. IsRunEnd (as_in_midst s)) GateFault (g.G.Gate.faults c.args.gate.now) c.durable.result c.durable.ensures.ends.end (λ no. no)
-
-pub returns-in-Ok-Durable-clause-dial : goal.returns-in-Ok-Durable-clause-dial
-returns-in-Ok-Durable-clause-dial g c = no_fault (λ s. IsRunEnd (as_in_midst s)) DialFault (g.D.Dial.faults c.args.dial.now) c.durable.result c.durable.ensures.ends.end (λ no. no)
-
 pub returns-in-Ok-Durable-clause-usage : goal.returns-in-Ok-Durable-clause-usage
 returns-in-Ok-Durable-clause-usage g c = λ is. absurd (subst (λ s. IsRunEnd (as_in_midst s)) is c.durable.ensures.ends.end)
-
-pub returns-in-Err-Usage-clause-read : goal.returns-in-Err-Usage-clause-read
-returns-in-Err-Usage-clause-read g c = no_fault OnlyUsage ReadFault (g.I.Source.faults c.args.input.now) Usage tt (λ no. no)
-
-pub returns-in-Err-Usage-clause-write : goal.returns-in-Err-Usage-clause-write
-returns-in-Err-Usage-clause-write g c = no_fault OnlyUsage WriteFault (g.O.Sink.faults c.args.output.now) Usage tt (λ no. no)
-
-pub returns-in-Err-Usage-clause-gate : goal.returns-in-Err-Usage-clause-gate
-returns-in-Err-Usage-clause-gate g c = no_fault OnlyUsage GateFault (g.G.Gate.faults c.args.gate.now) Usage tt (λ no. no)
-
-pub returns-in-Err-Usage-clause-dial : goal.returns-in-Err-Usage-clause-dial
-returns-in-Err-Usage-clause-dial g c = no_fault OnlyUsage DialFault (g.D.Dial.faults c.args.dial.now) Usage tt (λ no. no)
-
-pub returns-in-Err-Usage-clause-disk : goal.returns-in-Err-Usage-clause-disk
-returns-in-Err-Usage-clause-disk g c = no_fault OnlyUsage DiskFault (g.S.Store.faults c.args.store.now) Usage tt (λ no. no)
-
-pub returns-in-Err-NoMemory-clause-read : goal.returns-in-Err-NoMemory-clause-read
-returns-in-Err-NoMemory-clause-read g c = no_fault OnlyMemory ReadFault (g.I.Source.faults c.args.input.now) NoMemory tt (λ no. no)
-
-pub returns-in-Err-NoMemory-clause-write : goal.returns-in-Err-NoMemory-clause-write
-returns-in-Err-NoMemory-clause-write g c = no_fault OnlyMemory WriteFault (g.O.Sink.faults c.args.output.now) NoMemory tt (λ no. no)
-
-pub returns-in-Err-NoMemory-clause-gate : goal.returns-in-Err-NoMemory-clause-gate
-returns-in-Err-NoMemory-clause-gate g c = no_fault OnlyMemory GateFault (g.G.Gate.faults c.args.gate.now) NoMemory tt (λ no. no)
-
-pub returns-in-Err-NoMemory-clause-dial : goal.returns-in-Err-NoMemory-clause-dial
-returns-in-Err-NoMemory-clause-dial g c = no_fault OnlyMemory DialFault (g.D.Dial.faults c.args.dial.now) NoMemory tt (λ no. no)
-
-pub returns-in-Err-NoMemory-clause-disk : goal.returns-in-Err-NoMemory-clause-disk
-returns-in-Err-NoMemory-clause-disk g c = no_fault OnlyMemory DiskFault (g.S.Store.faults c.args.store.now) NoMemory tt (λ no. no)
 
 pub returns-in-Err-NoMemory-clause-carried : goal.returns-in-Err-NoMemory-clause-carried
 returns-in-Err-NoMemory-clause-carried g c = nothing_done g.A.AnySite.opened g.I.Source g.O.Sink g.G.Gate g.G.Link.Duplex g.G.Link.Sink g.D.Dial g.D.Link.Duplex g.D.Link.Sink g.S.Store g.S.Disk.Disk
@@ -422,3 +240,111 @@ returns-in-Err-Usage-clause-unknown g c = λ unknown. (refl, refl, refl, refl, r
 
 pub returns-in-Err-Usage-clause-usage : goal.returns-in-Err-Usage-clause-usage
 returns-in-Err-Usage-clause-usage g c = λ is. unknown_at_none (map (λ w. string_bytes w) c.args.words.now) (c.in-Err-Usage.ensures.usage (ap (λ fault. Err fault) c.in-Err-Usage.field-0-is))
+
+pub returns-in-Ok-Run-clause-faults : goal.returns-in-Ok-Run-clause-faults
+returns-in-Ok-Run-clause-faults g c = record {
+  read = c.run.ensures.read;
+  write = c.run.ensures.write;
+  gate = no_fault IsRunEnd GateFault (g.G.Gate.faults c.args.gate.now) c.run.result c.run.ensures.ends.end (λ no. no);
+  dial = no_fault IsRunEnd DialFault (g.D.Dial.faults c.args.dial.now) c.run.result c.run.ensures.ends.end (λ no. no);
+  disk = no_fault IsRunEnd DiskFault (g.S.Store.faults c.args.store.now) c.run.result c.run.ensures.ends.end (λ no. no);
+}
+
+pub returns-in-Ok-Shell-clause-faults : goal.returns-in-Ok-Shell-clause-faults
+returns-in-Ok-Shell-clause-faults g c = record {
+  read = c.shell.ensures.read;
+  write = c.shell.ensures.write;
+  gate = no_fault IsLineEnd GateFault (g.G.Gate.faults c.args.gate.now) c.shell.result c.shell.ensures.ends.end (λ no. no);
+  dial = no_fault IsLineEnd DialFault (g.D.Dial.faults c.args.dial.now) c.shell.result c.shell.ensures.ends.end (λ no. no);
+  disk = no_fault IsLineEnd DiskFault (g.S.Store.faults c.args.store.now) c.shell.result c.shell.ensures.ends.end (λ no. no);
+}
+
+pub returns-in-Ok-Audit-clause-faults : goal.returns-in-Ok-Audit-clause-faults
+returns-in-Ok-Audit-clause-faults g c = record {
+  read = c.audit_frames.ensures.read;
+  write = c.audit_frames.ensures.write;
+  gate = no_fault IsRunEnd GateFault (g.G.Gate.faults c.args.gate.now) c.audit_frames.result c.audit_frames.ensures.ends.end (λ no. no);
+  dial = no_fault IsRunEnd DialFault (g.D.Dial.faults c.args.dial.now) c.audit_frames.result c.audit_frames.ensures.ends.end (λ no. no);
+  disk = no_fault IsRunEnd DiskFault (g.S.Store.faults c.args.store.now) c.audit_frames.result c.audit_frames.ensures.ends.end (λ no. no);
+}
+
+pub returns-in-Ok-World-clause-faults : goal.returns-in-Ok-World-clause-faults
+returns-in-Ok-World-clause-faults g c = record {
+  read = record { later = c.run_world.ensures.read_later; cause = c.run_world.ensures.read };
+  write = record { later = c.run_world.ensures.write_later; cause = c.run_world.ensures.write };
+  gate = no_fault IsRunEnd GateFault (g.G.Gate.faults c.args.gate.now) c.run_world.result c.run_world.ensures.status (λ no. no);
+  dial = no_fault IsRunEnd DialFault (g.D.Dial.faults c.args.dial.now) c.run_world.result c.run_world.ensures.status (λ no. no);
+  disk = no_fault IsRunEnd DiskFault (g.S.Store.faults c.args.store.now) c.run_world.result c.run_world.ensures.status (λ no. no);
+}
+
+pub returns-in-Ok-Load-clause-faults : goal.returns-in-Ok-Load-clause-faults
+returns-in-Ok-Load-clause-faults g c = record {
+  read = no_fault IsLoadEnd ReadFault (g.I.Source.faults c.args.input.now) c.run_load.result c.run_load.ensures.status (λ no. no);
+  write = record { later = c.run_load.ensures.write_later; cause = c.run_load.ensures.write };
+  gate = no_fault IsLoadEnd GateFault (g.G.Gate.faults c.args.gate.now) c.run_load.result c.run_load.ensures.status (λ no. no);
+  dial = no_fault IsLoadEnd DialFault (g.D.Dial.faults c.args.dial.now) c.run_load.result c.run_load.ensures.status (λ no. no);
+  disk = no_fault IsLoadEnd DiskFault (g.S.Store.faults c.args.store.now) c.run_load.result c.run_load.ensures.status (λ no. no);
+}
+
+pub returns-in-Ok-Auto-clause-faults : goal.returns-in-Ok-Auto-clause-faults
+returns-in-Ok-Auto-clause-faults g c = record {
+  read = c.auto.ensures.read;
+  write = c.auto.ensures.write;
+  gate = no_fault IsLineEnd GateFault (g.G.Gate.faults c.args.gate.now) c.auto.result c.auto.ensures.ends.end (λ no. no);
+  dial = no_fault IsLineEnd DialFault (g.D.Dial.faults c.args.dial.now) c.auto.result c.auto.ensures.ends.end (λ no. no);
+  disk = no_fault IsLineEnd DiskFault (g.S.Store.faults c.args.store.now) c.auto.result c.auto.ensures.ends.end (λ no. no);
+}
+
+pub returns-in-Ok-Export-clause-faults : goal.returns-in-Ok-Export-clause-faults
+returns-in-Ok-Export-clause-faults g c = record {
+  read = record { later = c.export.ensures.read_later; cause = c.export.ensures.read };
+  write = record { later = c.export.ensures.write_later; cause = c.export.ensures.write };
+  gate = no_fault (IsExportEnd c.in-Ok-Export.state) GateFault (g.G.Gate.faults c.args.gate.now) c.export.result c.export.ensures.status (λ no. no);
+  dial = no_fault (IsExportEnd c.in-Ok-Export.state) DialFault (g.D.Dial.faults c.args.dial.now) c.export.result c.export.ensures.status (λ no. no);
+  disk = no_fault (IsExportEnd c.in-Ok-Export.state) DiskFault (g.S.Store.faults c.args.store.now) c.export.result c.export.ensures.status (λ no. no);
+}
+
+pub returns-in-Ok-Import-clause-faults : goal.returns-in-Ok-Import-clause-faults
+returns-in-Ok-Import-clause-faults g c = record {
+  read = record { later = c.run_import.ensures.read_later; cause = c.run_import.ensures.read };
+  write = record { later = c.run_import.ensures.write_later; cause = c.run_import.ensures.write };
+  gate = no_fault IsImportEnd GateFault (g.G.Gate.faults c.args.gate.now) c.run_import.result c.run_import.ensures.status (λ no. no);
+  dial = no_fault IsImportEnd DialFault (g.D.Dial.faults c.args.dial.now) c.run_import.result c.run_import.ensures.status (λ no. no);
+  disk = no_fault IsImportEnd DiskFault (g.S.Store.faults c.args.store.now) c.run_import.result c.run_import.ensures.status (λ no. no);
+}
+
+pub returns-in-Ok-Serve-clause-faults : goal.returns-in-Ok-Serve-clause-faults
+returns-in-Ok-Serve-clause-faults g c = record {
+  read = no_fault IsServerEnd ReadFault (g.I.Source.faults c.args.input.now) c.serve_plan.result (subst IsServerEnd (sym c.serve_plan.ensures.ends.judged) (ends_so c.serve_plan.ensures.ends.end)) (λ no. no);
+  write = c.serve_plan.ensures.write;
+  gate = c.serve_plan.ensures.gate;
+  dial = c.serve_plan.ensures.dial;
+  disk = no_fault IsServerEnd DiskFault (g.S.Store.faults c.args.store.now) c.serve_plan.result (subst IsServerEnd (sym c.serve_plan.ensures.ends.judged) (ends_so c.serve_plan.ensures.ends.end)) (λ no. no);
+}
+
+pub returns-in-Ok-Durable-clause-faults : goal.returns-in-Ok-Durable-clause-faults
+returns-in-Ok-Durable-clause-faults g c = record {
+  read = c.durable.ensures.read;
+  write = c.durable.ensures.write;
+  gate = no_fault (λ s. IsRunEnd (as_in_midst s)) GateFault (g.G.Gate.faults c.args.gate.now) c.durable.result c.durable.ensures.ends.end (λ no. no);
+  dial = no_fault (λ s. IsRunEnd (as_in_midst s)) DialFault (g.D.Dial.faults c.args.dial.now) c.durable.result c.durable.ensures.ends.end (λ no. no);
+  disk = c.durable.ensures.disk;
+}
+
+pub returns-in-Err-Usage-clause-faults : goal.returns-in-Err-Usage-clause-faults
+returns-in-Err-Usage-clause-faults g c = record {
+  read = no_fault OnlyUsage ReadFault (g.I.Source.faults c.args.input.now) Usage tt (λ no. no);
+  write = no_fault OnlyUsage WriteFault (g.O.Sink.faults c.args.output.now) Usage tt (λ no. no);
+  gate = no_fault OnlyUsage GateFault (g.G.Gate.faults c.args.gate.now) Usage tt (λ no. no);
+  dial = no_fault OnlyUsage DialFault (g.D.Dial.faults c.args.dial.now) Usage tt (λ no. no);
+  disk = no_fault OnlyUsage DiskFault (g.S.Store.faults c.args.store.now) Usage tt (λ no. no);
+}
+
+pub returns-in-Err-NoMemory-clause-faults : goal.returns-in-Err-NoMemory-clause-faults
+returns-in-Err-NoMemory-clause-faults g c = record {
+  read = no_fault OnlyMemory ReadFault (g.I.Source.faults c.args.input.now) NoMemory tt (λ no. no);
+  write = no_fault OnlyMemory WriteFault (g.O.Sink.faults c.args.output.now) NoMemory tt (λ no. no);
+  gate = no_fault OnlyMemory GateFault (g.G.Gate.faults c.args.gate.now) NoMemory tt (λ no. no);
+  dial = no_fault OnlyMemory DialFault (g.D.Dial.faults c.args.dial.now) NoMemory tt (λ no. no);
+  disk = no_fault OnlyMemory DiskFault (g.S.Store.faults c.args.store.now) NoMemory tt (λ no. no);
+}
