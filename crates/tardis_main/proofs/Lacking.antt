@@ -1,5 +1,5 @@
 -- What words came to for which there was no memory: nothing was done.
-use Rattle.std.proofs.Common.{◌≡◌, ℕ, List, Some, refl, arith}
+use Rattle.std.proofs.Common.{◌≡◌, ℕ, List, Some, refl}
 use Rattle.tardis_io.specs.declared.statuses.Status.TheVariants.{NoMemory}
 use Rattle.tardis_io.specs.declared.streams.Source.{Ghosts as ASource}
 use Rattle.tardis_io.specs.declared.streams.Sink.{Ghosts as ASink}
