@@ -10,22 +10,36 @@ ghost use Rattle.tardis_io.specs.Statuses.{status_number};
 use disk_forms::FileStore;
 use session_core::SiteCore;
 use socket_links::{SocketDial, SocketGate, TellingDial, TellingGate};
-use std::alloc::Global;
 use std::env::{self, Args};
-use std::fs::{File, Files};
 use std::hash::RandomState;
 use std::io::{self, Eprint};
-use std::net::{Net, TcpListener, TcpStream};
 use std::process::ExitCode;
-use std::sync::Wait;
-use std::thread::Threads;
 use tardis_io::{Status, StdIn, StdOut};
 use tardis_main::carry_out;
 
 fn main(rt: HostRuntime) -> ExitCode {
-    let input = StdIn::new(rt.stdin());
-    let output = StdOut::new(rt.stdout());
-    let status = run(&rt, rt.alloc(), asked(&rt), input, output);
+    let alloc = rt.alloc();
+    let mut input = StdIn::new(rt.stdin());
+    let mut output = StdOut::new(rt.stdout());
+    let status = match asked(&rt) {
+        Ok(Given { args, keys }) => {
+            let mut gate = TellingGate::new(&rt, SocketGate::new(&rt));
+            let mut dial = TellingDial::new(&rt, SocketDial::new(&rt));
+            let mut store = FileStore::new(alloc, &rt);
+            carry_out::<SiteCore, _, _, _, _, _, _>(
+                alloc,
+                &rt,
+                keys,
+                args,
+                &mut input,
+                &mut output,
+                &mut gate,
+                &mut dial,
+                &mut store,
+            )
+        }
+        Err(status) => status,
+    };
     end(&rt, status)
 }
 
@@ -48,44 +62,6 @@ fn asked(rt: &HostRuntime) -> Result<Given, Status> {
         Ok(keys) => Ok(Given { args, keys }),
         // a system without random bytes to give is told as one without memory
         Err(_) => Err(Status::NoMemory),
-    }
-}
-
-/// Carries out the command of the arguments over these devices, and sockets.
-fn run<R>(
-    rt: &R,
-    alloc: Global,
-    given: Result<Given, Status>,
-    input: StdIn,
-    output: StdOut,
-) -> Status
-where
-    R: Threads
-        + Wait
-        + Sync
-        + Files<File = File>
-        + Net<Listener = TcpListener, Stream = TcpStream>
-        + Eprint,
-{
-    let (mut input, mut output) = (input, output);
-    match given {
-        Ok(Given { args, keys }) => {
-            let mut gate = TellingGate::new(rt, SocketGate::new(rt));
-            let mut dial = TellingDial::new(rt, SocketDial::new(rt));
-            let mut store = FileStore::new(alloc, rt);
-            carry_out::<SiteCore, _, _, _, _, _, _>(
-                alloc,
-                rt,
-                keys,
-                args,
-                &mut input,
-                &mut output,
-                &mut gate,
-                &mut dial,
-                &mut store,
-            )
-        }
-        Err(status) => status,
     }
 }
 
