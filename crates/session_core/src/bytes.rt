@@ -25,14 +25,34 @@ use crate::transactions::{NotedRead, read_noted};
 use crate::{Parts, SiteCore};
 use merge_txn::{MergeTxn, Txn};
 use site_answers::{
-    Stop, asked, asked_lent, give, give_end, give_found, give_refused, keep_room, key_of,
-    own_write, value_of,
+    Stop, asked, asked_lent, give, give_end, give_found, give_refused, keep_room, own_write,
 };
+use std::alloc::Global;
 use talk_bytes::{LentRequest, write_begun, write_done};
 use tardis_base::{
     Begin, EndFlags, Key, Machine, NoMemory, Over, Refusal, Reply, ReplyBuf, Request, StateList,
-    Write,
+    Value, Write,
 };
+
+/// The key of these bytes, which are copied.
+fn key_of(alloc: Global, bytes: &[u8]) -> Result<Key, NoMemory>
+    ensures { IfOk result (λ key. key ≡ bytes.now) }
+{
+    match Key::new(alloc, bytes) {
+        Ok(key) => Ok(key),
+        Err(_) => Err(NoMemory),
+    }
+}
+
+/// The value of these bytes, which are copied.
+fn value_of(alloc: Global, bytes: &[u8]) -> Result<Value, NoMemory>
+    ensures { IfOk result (λ value. value ≡ bytes.now) }
+{
+    match Value::new(alloc, bytes) {
+        Ok(value) => Ok(value),
+        Err(_) => Err(NoMemory),
+    }
+}
 
 impl Parts {
     /// Reads the key in the actor's transaction, notes the read, and writes the reply into the empty buffer; after a stop

@@ -1,6 +1,7 @@
 -- What is told, by how a request ended.
-use Rattle.std.specs.Prelude.{◌≡◌, ⊤, Bool, true, false, Result, Ok, Err}
+use Rattle.std.specs.Prelude.{◌≡◌, ⊤, Bool, true, false, List, Result, Ok, Err}
 use Rattle.tardis_base.specs.declared.faults.NoMemory.{NoMemory as OutOfMemory}
+use Rattle.tardis_base.specs.declared.ids.StateId.{StateId}
 use Rattle.tardis_base.specs.declared.replies.Reply.{Reply}
 use Rattle.tardis_base.specs.declared.replies.Reply.TheVariants.{Refused as RefusedWith, Committed as CommittedAs, Ended as EndedAt}
 use Rattle.tardis_base.specs.declared.replies.Reply.TheVariants.{Applied as IsApplied, Known as IsKnown, Early as IsEarly}
@@ -17,6 +18,11 @@ use Rattle.site_answers.specs.declared.stops.Stop.TheVariants.{Refused, NoMemory
 abbrev pub commit_reply : CommitEnd → Reply
 commit_reply (Committed id parents) = CommittedAs id parents
 commit_reply (Ended state) = EndedAt state
+
+-- the parents that are told at the end, or else those that were told before
+abbrev pub parents_told : CommitEnd → List StateId → List StateId
+parents_told (Committed id parents) before = parents
+parents_told (Ended state) before = before
 
 -- what is told: the reply, or the refusal as one; or that there was no memory
 abbrev pub ToldAs : Result Reply Stop → Result Reply OutOfMemory → Type 0

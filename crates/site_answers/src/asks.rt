@@ -9,7 +9,7 @@ ghost use Rattle.site_answers.specs.Asks.{AsksFor};
 
 use std::alloc::Global;
 use talk_bytes::{LentRequest, read_lent, read_request};
-use tardis_base::{Key, NoMemory, ReadFault, Request, Value};
+use tardis_base::{NoMemory, ReadFault, Request};
 use wire_talk::talk_has_one_spelling;
 
 /// The request that the bytes spell; None of other bytes, which are malformed.
@@ -31,24 +31,4 @@ pub fn asked_lent(bytes: &[u8]) -> Option<LentRequest<'_>>
 {
     talk_has_one_spelling();
     read_lent(bytes)
-}
-
-/// The key of these bytes, which are copied.
-pub fn key_of(alloc: Global, bytes: &[u8]) -> Result<Key, NoMemory>
-    ensures { IfOk result (λ key. key ≡ bytes.now) }
-{
-    match Key::new(alloc, bytes) {
-        Ok(key) => Ok(key),
-        Err(_) => Err(NoMemory),
-    }
-}
-
-/// The value of these bytes, which are copied.
-pub fn value_of(alloc: Global, bytes: &[u8]) -> Result<Value, NoMemory>
-    ensures { IfOk result (λ value. value ≡ bytes.now) }
-{
-    match Value::new(alloc, bytes) {
-        Ok(value) => Ok(value),
-        Err(_) => Err(NoMemory),
-    }
 }

@@ -12,7 +12,7 @@ ghost use Rattle.wire_talk.specs.Spellings.{reply_spelling};
 ghost use Rattle.wire_talk.specs.Valid.{is_refusal, is_reply};
 ghost use Rattle.plain_site.specs.Answers.{found as reply_to};
 ghost use Rattle.site_answers.specs.Stops.{refusal_of};
-ghost use Rattle.site_answers.specs.Told.{commit_reply, ToldAs, consent_reply, TakenAs, is_applied, UntakenAs};
+ghost use Rattle.site_answers.specs.Told.{commit_reply, parents_told, ToldAs, consent_reply, TakenAs, is_applied, UntakenAs};
 
 use crate::stops::Stop;
 use ceiling_book::{ConsentEnd, RaiseFault};
@@ -71,7 +71,9 @@ pub fn give_refused(refusal: Refusal, out: &mut ReplyBuf)
 }
 
 /// Keeps the memory of the parents that were told.
-pub fn keep_room(told: &mut StateList, end: CommitEnd) {
+pub fn keep_room(told: &mut StateList, end: CommitEnd)
+    ensures { told.new ≡ parents_told end told.old }
+{
     match end {
         CommitEnd::Committed { parents, .. } => *told = parents,
         CommitEnd::Ended { .. } => {},

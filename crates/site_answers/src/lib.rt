@@ -9,7 +9,7 @@ mod gives;
 mod slots;
 mod stops;
 
-pub use asks::{asked, asked_lent, key_of, value_of};
+pub use asks::{asked, asked_lent};
 pub use gives::{
     CommitEnd, commit_reply, consent_reply, give, give_end, give_found, give_refused, is_applied,
     keep_room, own_write, raise_refusal, reply_of, taken, told, untaken,

@@ -91,7 +91,7 @@ returns-in-Ok c = λ site stands t xs found named_now arrives.
     let named_new = subst (λ z. id_at z c.in-Ok.slot ≡ Some r.id) (sym c.dag-in-Ok.ensures) (done.2.slot.1 ∙ ap (λ y. Some y) may.named) in
     commit-gives core site here n xs (writes_of t) c.commit_open.new.store c.committed.new.self c.commit_open.new.txns
     id c.in_ok-parents.parents may.more may.named
-    (told-parents c.dag-2.result.now c.self.inside.store.table c.dag-2.ensures c.args.below.now xs c.in_ok-parents.parents c.in_ok-parents.ensures named)
+    (told-parents c.dag-2.result.now c.self.inside.store.table c.dag-2.ensures c.args.below.now xs c.in_ok-parents.parents c.in_ok-parents.ensures.states named)
     added done.2.keeps done.2.limits c.committed.ensures.rest
     (c.committed.ensures.sessions (r ∷ site.dag) site.collected stands_new placed r.id named_new)
     (subst (λ z. ArePlaced c.committed.new.self z (r ∷ site.dag) site.collected) c.dag-in-Ok.ensures
