@@ -203,10 +203,10 @@ def clock(seconds, jobs):
     return LOADING + max(0, seconds - LOADING) * (1 + 0.2 * (jobs - 1)) / jobs
 
 
-def jobs_for(crate, crates, unfinished, width):
-    """How many processors the crate gets: one, and those that would be idle until it is proved, as what doesn't stand on it keeps
-    the others busy for less time."""
-    others = sum(crates[it].seconds for it in unfinished if it != crate.name and crate not in crates[it].below)
+def jobs_for(crate, crates, left, width):
+    """How many processors the crate gets, where so many seconds of each crate are left: one, and those that would be idle until it is
+    proved, as what doesn't stand on it keeps the others busy for less time."""
+    others = sum(seconds for name, seconds in left.items() if name != crate.name and crate not in crates[name].below)
     idle = (width - 1) * crate.seconds - others
     return max(1, min(JOBS, 1 + int(idle // crate.seconds)))
 
@@ -220,7 +220,9 @@ def time_left(crates, todo, width):
             idle = width - sum(jobs for _, jobs in running.values())
             if idle < 1:
                 break
-            jobs = min(idle, jobs_for(crates[name], crates, [*todo, *running], width))
+            left = {it: crates[it].seconds for it in todo}
+            left.update((it, end - at) for it, (end, _) in running.items())
+            jobs = min(idle, jobs_for(crates[name], crates, left, width))
             todo.remove(name)
             running[name] = (at + clock(crates[name].seconds, jobs), jobs)
         name = min(running, key=lambda it: running[it][0])
@@ -252,8 +254,13 @@ class Proof:
 
     def __init__(self, crate, jobs, total, words, log, guard, is_alone):
         self.crate, self.jobs, self.total, self.log, self.is_alone = crate, jobs, total, log, is_alone
+        self.began = time.monotonic()
         with open(log, "wb") as file:
             self.process = guard.start(words, crate.folder, file)
+
+    def seconds_left(self):
+        """How many seconds of a processor are left of it, roughly."""
+        return max(0.0, self.crate.seconds - self.jobs * (time.monotonic() - self.began))
 
     def status(self):
         """The status with which it ended, or None; what it took is noted beside the crate's statements."""
@@ -309,6 +316,12 @@ class Build:
             if time.monotonic() - self.told > SILENCE:
                 self.tell(f"({', '.join(it.crate.name for it in self.running)})")
 
+    def seconds_left(self):
+        """For each crate that isn't proved the seconds that are left of it."""
+        left = {it: self.crates[it].seconds for it in (*self.todo, self.program)}
+        left.update((it.crate.name, it.seconds_left()) for it in self.running)
+        return left
+
     def start_ready(self):
         lacking = {*self.todo, *(it.crate.name for it in self.running)}
         ready = sorted((it for it in self.todo if lacking.isdisjoint(self.crates[it].deps)), key=lambda it: -self.longest[it])
@@ -318,7 +331,7 @@ class Build:
                 return
             if self.running and (is_alone or free_memory() < ROOM):
                 continue
-            jobs = jobs_for(self.crates[name], self.crates, [*lacking, self.program], self.width)
+            jobs = jobs_for(self.crates[name], self.crates, self.seconds_left(), self.width)
             self.start(self.crates[name], 1 if is_alone else min(idle, jobs), is_alone)
 
     def start(self, crate, jobs, is_alone):
