@@ -78,7 +78,7 @@ fn asked(rt: &HostRuntime) -> Result<Given, DaemonEnd> {
             let (keys, life) = (drawn.0, drawn.1);
             Ok(Given { args, keys, life })
         }
-        // a system without random bytes to give is told as one without memory
+        // whatever the reason that the system gives no random bytes, it is told as want of memory
         Err(_) => Err(DaemonEnd::NoMemory),
     }
 }
