@@ -100,16 +100,18 @@ class Site(Server):
 
     def records_refused(self):
         """How many records of its peers it told that it refused."""
-        return sum(int(found) for line in self.lines for found in re.findall(r"(\d+) records? refused", line))
+        return sum(int(found) for line in self.lines for found in re.findall(r"no room for (\d+) of its records", line))
 
 
 class Client(threading.Thread):
     """A client that follows, and writes one key that all write, until it has written so often or is told to end. Where a commit is
-    refused for want of room it moves its ceiling on, so that its session holds no state that it won't read any more."""
+    refused for want of room it moves its ceiling on, so that its session holds no state that it won't read any more; or it only tries
+    again."""
 
-    def __init__(self, site, count=None, pause=0.3, seed=0):
+    def __init__(self, site, count=None, pause=0.3, seed=0, moves_on=True):
         super().__init__(daemon=True)
         self.site, self.count, self.pause, self.random = site, count, pause, random.Random("%d %d" % (site.number, seed))
+        self.moves_on = moves_on
         self.is_over, self.times, self.refused, self.fault = threading.Event(), [], 0, None
         self.start()
 
@@ -130,9 +132,10 @@ class Client(threading.Thread):
             self.times.append(time.monotonic())
         except tardis.Full:
             self.refused += 1
-            begun = connection.begin()
-            connection.abort()
-            connection.ceiling(begun)
+            if self.moves_on:
+                begun = connection.begin()
+                connection.abort()
+                connection.ceiling(begun)
 
     def end(self):
         """Waits until it has written so often as it was to; or ends it."""
@@ -199,9 +202,9 @@ class Group:
             it.end()
         return max(it.times[-1] for it in clients)
 
-    def begin_clients(self, at=None, each=2):
+    def begin_clients(self, at=None, each=2, moves_on=True):
         """Clients at each site, or at these, that go on until they are told to end, and that try again soon."""
-        begun = [Client(it, None, 0.02, seed) for it in self.sites if at is None or it.number in at for seed in range(each)]
+        begun = [Client(it, None, 0.02, seed, moves_on) for it in self.sites if at is None or it.number in at for seed in range(each)]
         self.clients += begun
         return begun
 
@@ -368,15 +371,20 @@ def end_in_peace(group, checks, clients):
     come_to_peace(group, checks, time.monotonic())
 
 
-def filled_behind_cut_links(group, checks):
+def filled_behind_cut_links(group, checks, moves_on=True):
     """All links are cut, clients commit at each site until it is full, and the links are mended."""
     for link in group.links.values():
         link.cut()
-    clients = group.begin_clients()
+    clients = group.begin_clients(moves_on=moves_on)
     refused_for_a_while(clients)
     group.mend()
     commits_go_on(group, checks, clients, 40)
     end_in_peace(group, checks, clients)
+
+
+def filled_and_tried_again(group, checks):
+    """The same with clients that only try again."""
+    filled_behind_cut_links(group, checks, False)
 
 
 def filled_by_an_old_session(group, checks):
@@ -442,6 +450,7 @@ def scenarios():
     add(links_flap, "links that flap", 3)
     for sites in 2, 3:
         add(filled_behind_cut_links, "full by cut links", sites, states=ROOM)
+        add(filled_and_tried_again, "full by cut links, and tried again", sites, states=ROOM)
         add(filled_by_an_old_session, "full by an old session", sites, states=ROOM)
     add(gone_for_good(3), "site 3 away for good", 3, states=ROOM, join_after=3)
     add(gone_for_good(1), "site 1 away for good", 3, states=ROOM, join_after=3)
