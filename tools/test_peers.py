@@ -38,9 +38,9 @@ TOP = os.path.dirname(HERE)
 sys.path[:0] = [os.path.join(TOP, "clients", "python")]
 
 import tardis  # noqa: E402
-from servers import PATIENCE, free_port  # noqa: E402
+from links import Links  # noqa: E402
+from servers import PATIENCE, Server, are_equal, free_port, running, until  # noqa: E402
 
-TARDISD = os.path.join(TOP, "tardisd")
 #: what ends each line of a peer that is lost
 AGAIN = "; called again in a second, and then after pauses that double up to a minute"
 CLIENTS, SITES = 20, 3
@@ -51,104 +51,6 @@ FEW = 300
 
 def say(text):
     print(text, flush=True)
-
-
-def until(what, seconds=PATIENCE, of="it"):
-    """Waits until the call gives something, and gives that."""
-    end = time.monotonic() + seconds
-    while True:
-        found = what()
-        if found:
-            return found
-        assert time.monotonic() < end, "%s didn't come within %d seconds" % (of, seconds)
-        time.sleep(0.02)
-
-
-class Server:
-    """A server at a door for all. What it writes on standard error is kept, line by line."""
-
-    def __init__(self, address, *words):
-        self.address, self.words, self.lines = address, words, []
-        self.start()
-
-    def start(self):
-        self.process = subprocess.Popen([TARDISD, "--listen", self.address, *self.words], stdin=subprocess.DEVNULL,
-                                        stdout=subprocess.DEVNULL, stderr=subprocess.PIPE, text=True)
-        self.began = count = len(self.lines)
-        threading.Thread(target=self.read, args=(self.process.stderr,), daemon=True).start()
-        until(lambda: len(self.lines) > count or self.process.poll() is not None, 120, "a server")
-        assert " listens " in self.lines[count], self.lines[count:]
-
-    def read(self, stream):
-        with stream:
-            for line in stream:
-                self.lines.append(line.rstrip("\n"))
-
-    def kill(self):
-        self.process.kill()
-        self.process.wait(PATIENCE)
-
-    def connect(self):
-        return tardis.connect(self.address, PATIENCE)
-
-    def told(self, of):
-        """What it told of the peer at an address since it was started last."""
-        head = "tardisd: peer %s: " % of
-        return [line[len(head):] for line in self.lines[self.began:] if line.startswith(head)]
-
-    def commit(self, **writes):
-        """A transaction at the newest state."""
-        with self.connect() as site:
-            site.open(follow=True)
-            with site.transaction("any") as txn:
-                for key, value in writes.items():
-                    txn.put(key.encode(), value)
-            return txn.committed
-
-    def stat(self):
-        with self.connect() as site:
-            return site.stat()
-
-    def counts(self):
-        return [line.count for line in self.stat().sites]
-
-    def records(self):
-        """The records of all states that are kept, by Pull, a batch at a time."""
-        found = {}
-        with self.connect() as site:
-            counts = [0 for _ in site.stat().sites]
-            while True:
-                batch = site.pull(counts)
-                fresh = [record for record in batch.records if record.id not in found]
-                if not fresh:
-                    return found
-                for record in fresh:
-                    found[record.id] = record
-                    counts[record.id.site - 1] = max(counts[record.id.site - 1], record.id.sequence)
-
-    def read_at_leaves(self):
-        """The leaves, and what is read at each."""
-        with self.connect() as site:
-            return {leaf: dict(site.scan(leaf)) for leaf in site.leaves().first}
-
-
-@contextlib.contextmanager
-def running(*servers):
-    """All of these are killed in the end."""
-    try:
-        yield servers
-    finally:
-        for server in servers:
-            server.kill()
-
-
-def are_equal(*servers):
-    """Whether all know the same states, and read the same at the same leaves."""
-    try:
-        counts = [server.counts() for server in servers]
-        return all(it == counts[0] for it in counts) and all(it.read_at_leaves() == servers[0].read_at_leaves() for it in servers)
-    except (OSError, tardis.ProtocolError, tardis.Refused):
-        return False
 
 
 # two servers
@@ -425,66 +327,11 @@ def quietly(call, *words):
 
 # three sites, cut links, kills
 
-class Link:
-    """A way from one site to another that can be cut: it takes what comes at one socket, and carries it to the other."""
-
-    def __init__(self, at, to):
-        self.at, self.to, self.is_cut, self.lock, self.ends = at, to, False, threading.Lock(), set()
-        self.door = socket.socket(socket.AF_UNIX)
-        self.door.bind(at[len("unix:"):])
-        self.door.listen(16)
-        threading.Thread(target=self.take, daemon=True).start()
-
-    def take(self):
-        while True:
-            made, _ = self.door.accept()
-            threading.Thread(target=self.carry, args=(made,), daemon=True).start()
-
-    def carry(self, made):
-        other = socket.socket(socket.AF_UNIX)
-        try:
-            if self.is_cut:
-                raise OSError
-            other.connect(self.to[len("unix:"):])
-        except OSError:
-            made.close()
-            other.close()
-            return
-        with self.lock:
-            self.ends.add((made, other))
-        for pair in (made, other), (other, made):
-            threading.Thread(target=self.pump, args=(*pair, (made, other)), daemon=True).start()
-
-    def pump(self, source, target, both):
-        with contextlib.suppress(OSError):
-            while True:
-                more = source.recv(65536)
-                if not more:
-                    break
-                target.sendall(more)
-        self.drop(both)
-
-    def drop(self, both):
-        with self.lock:
-            self.ends.discard(both)
-        for end in both:
-            with contextlib.suppress(OSError):
-                end.shutdown(socket.SHUT_RDWR)
-            end.close()
-
-    def cut(self):
-        self.is_cut = True
-        for both in list(self.ends):
-            self.drop(both)
-
-    def mend(self):
-        self.is_cut = False
-
-
 class Run:
     """Three sites, their clients, and what these were told."""
 
-    def __init__(self, folder, seed):
+    def __init__(self, folder, seed, network):
+        self.network = network
         self.choose, self.lock, self.stop = random.Random(seed), threading.Lock(), threading.Event()
         self.told, self.refused, self.commits, self.merges, self.kills, self.cuts, self.most_kept, self.most_leaves = {}, {}, 0, 0, 0, 0, 0, 0
         at = ["unix:" + os.path.join(folder, "site%d" % number) for number in range(1, SITES + 1)]
@@ -494,7 +341,7 @@ class Run:
                      "--file", os.path.join(folder, "file%d" % (number + 1))]
             for other in range(SITES):
                 if other != number:
-                    link = Link("unix:" + os.path.join(folder, "link%d%d" % (number + 1, other + 1)), at[other])
+                    link = self.network.add("unix:" + os.path.join(folder, "link%d%d" % (number + 1, other + 1)), at[other])
                     self.links.append(link)
                     words += ["--peer", link.at]
             self.sites.append(Server(at[number], *words))
@@ -603,8 +450,8 @@ class Run:
                 until(lambda: are_equal(*self.sites), 60, "what was committed last")
 
 
-def test_three_sites(folder, minutes, clients, seed):
-    run = Run(folder, seed)
+def test_three_sites(folder, minutes, clients, seed, network):
+    run = Run(folder, seed, network)
     try:
         threads = [threading.Thread(target=quietly, args=(run.client, number), daemon=True) for number in range(clients)]
         for thread in threads:
@@ -641,21 +488,21 @@ def test_three_sites(folder, minutes, clients, seed):
 
 
 def main():
-    global TARDISD
     words = argparse.ArgumentParser(usage=__doc__.split("\n\n")[1].partition(": ")[2])
     words.add_argument("--minutes", type=float, default=0)
     words.add_argument("--clients", type=int, default=CLIENTS)
     words.add_argument("--seed", type=int, default=1)
-    words.add_argument("program", nargs="?", default=TARDISD)
+    words.add_argument("program", nargs="?", default=Server.program)
     words = words.parse_args()
-    TARDISD = os.path.abspath(words.program)
+    Server.program = os.path.abspath(words.program)
     # builds it, where that is needed
-    subprocess.run([TARDISD, "--version"], check=True, stdout=subprocess.DEVNULL, timeout=7200)
+    subprocess.run([Server.program, "--version"], check=True, stdout=subprocess.DEVNULL, timeout=7200)
     signal.alarm(int(600 + 60 * words.minutes))
     folder = tempfile.mkdtemp()
     try:
         if words.minutes:
-            test_three_sites(folder, words.minutes, words.clients, words.seed)
+            with Links() as network:
+                test_three_sites(folder, words.minutes, words.clients, words.seed, network)
         else:
             test_rows(folder)
     finally:
