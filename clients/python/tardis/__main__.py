@@ -176,12 +176,22 @@ def sessions(site: Site, words: Words) -> None:
          "reads": [str(state) for state in line.reads], "holds": line.holds} for line in told.first]})
 
 
+def raise_floor(site: Site, words: Words) -> None:
+    told = site.raise_floor(words.state)
+    say(words, [f"the floor stands at {told.floor}"], {"floor": str(told.floor), "raised": told.number})
+
+
+def tidy(site: Site, words: Words) -> None:
+    count = site.tidy()
+    say(words, [f"{count} {'state' if count == 1 else 'states'} collected"], {"collected": count})
+
+
 def export(site: Site, words: Words) -> None:
     if words.out is None and sys.stdout.isatty():
         raise Told("an export is bytes, and not for a terminal: give --out FILE, or send it on")
     # the session holds the floor where it is, so that the state isn't collected while it is read
     with contextlib.suppress(SessionsFull):
-        site.open()
+        site.open(follow=False)
     state = StateId.parse(words.at) if words.at else the_leaf(site)
     with tempfile.TemporaryFile() as whole:
         # nothing is written before all is there
@@ -198,7 +208,7 @@ def load(site: Site, words: Words) -> None:
     # the whole file is read, and known to be an export, before anything is put
     with open(words.file, "rb") as file:
         entries = read_export(file)
-    site.open(follow=True)
+    site.open()
     made = put_entries(site, entries)
     count = f"{len(entries)} {'key' if len(entries) == 1 else 'keys'}"
     print(f"{count} put, from {made[0]} to {made[-1]}" if made else f"{count} put: there are none in the export")
@@ -252,7 +262,7 @@ def rules(text: Optional[str]) -> Resolve:
 
 
 def merge(site: Site, words: Words) -> None:
-    site.open(follow=True)
+    site.open()
     merged: Optional[Merged] = site.merge(rules(words.rules), words.states or None)
     if merged is None:
         say(words, ["one leaf alone, so there is nothing to merge"], None)
@@ -314,6 +324,9 @@ def parser() -> argparse.ArgumentParser:
     joined.add_argument("states", metavar="STATE", nargs="*")
     joined.add_argument("--rules", metavar="PREFIX=RULE,..", help=f"a rule is {', '.join(RULES)} or refuse; the longest prefix counts")
     command("sessions", sessions, "lists the open sessions, and which of them hold the floor")
+    raised = command("raise", raise_floor, "moves the floor down as far as all sessions allow, or to a state: what lies above may be collected")
+    raised.add_argument("state", metavar="STATE", nargs="?", help="to this state; else as far as it may go")
+    command("tidy", tidy, "collects the states that lie above every floor, which nobody reads any more")
     exported = command("export", export, "writes the keys and values of a state, as `tardis import` reads them", False)
     exported.add_argument("--at", metavar="STATE", help="of this state; else of the one leaf")
     exported.add_argument("--out", metavar="FILE", help="to this file, whole or not at all; else to standard output")

@@ -154,7 +154,7 @@ class _Merger:
         if not keys.first:
             return []
         told = yield from self._read_sides(keys.first, states)
-        yield from self.core.pull_news()
+        yield from self.core.learn()
         ancestry = self.core.records.ancestry()
         written: List[Request[None]] = []
         for key, sides in told.items():
@@ -251,7 +251,7 @@ class _Merger:
         bases = {key: _one_base(reads[key]) for key in keys}
         open_ones = [key for key in keys if bases[key] is UNKNOWN and is_asked_of_fork_points(self.resolve, key)]
         if open_ones and forks.total > 1:
-            yield from self.core.pull_news()
+            yield from self.core.learn()
             ancestry = self.core.records.ancestry()
             bases.update({key: value_together(ancestry, self.resolve, key, forks.first) for key in open_ones})
         return bases
@@ -275,7 +275,7 @@ class _Merger:
         asked: List[Request[Any]] = [requests.begin(state), *[requests.get(key) for key in keys], requests.abort()]
         answers = yield from ask_all(asked)
         if isinstance(answers[0].error, (Below, Collected, UnknownState)):
-            yield from self.core.pull_news()
+            yield from self.core.learn()
             told = {key: self.core.records.read(key, state) for key in keys}
             if None not in told.values():
                 return told
@@ -292,7 +292,7 @@ class _Merger:
         Where the session may not read there any more, it goes along the other branch."""
         turned = False
         while True:
-            yield from self.core.pull_news()
+            yield from self.core.learn()
             branch = self.core.records.apart(goal, current)
             if not branch:
                 return current

@@ -33,7 +33,7 @@ class Command(OverServers):
         """A cart of two leaves."""
         self.serve()
         one = self.connect()
-        one.open()
+        one.open(follow=False)
         with one.transaction() as txn:
             txn.put("cart", "tea"), txn.put("n", "1"), txn.put(b"\xff", b"")
         for cart in ("tea,milk", "tea,jam"):
@@ -109,7 +109,7 @@ class Command(OverServers):
             self.assertEqual(file.read(), b"before" + spelled + b"behind")
         # of the one leaf, to standard output
         one = self.connect()
-        one.open()
+        one.open(follow=False)
         one.merge(tardis.last_writer)
         made = subprocess.run([sys.executable, "-m", "tardis", "export", self.address], cwd=CLIENT, stdout=subprocess.PIPE, timeout=60)
         self.assertEqual((made.returncode, made.stdout), (0, spelled.replace(b"\0\x08tea,milk", b"\0\x07tea,jam")))
