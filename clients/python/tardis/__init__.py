@@ -31,6 +31,7 @@ from .replies import (
     Write)
 from .resolvers import (
     UNKNOWN, Base, Resolve, Sides, by_prefix, counter, last_writer, merge_text, three_way_text, union_of, union_of_lines)
+from .rules import Rules
 
 __version__ = "0.3.0"
 
@@ -41,7 +42,7 @@ __all__ = [
     "FloorBack", "ForkReads", "Full", "Held", "History", "Items", "Keys", "Known", "Limits", "Malformed", "MergeStep",
     "Merged", "Merging", "NoBranch", "NoMemory", "NoQuestions", "NoSuchItem", "NoTxn", "NotOpen", "NotRead", "OpenConflict", "Opened",
     "OwnItem", "PathFull", "Pipeline", "ProtocolError", "ROOT", "Raised", "Read", "Record", "Recorded", "Refused", "Reply",
-    "Resolve", "SeqEnd", "SessionLine", "Sessions", "SessionsFull", "Shown", "Sides", "Site", "SiteLine", "Stat", "State",
+    "Resolve", "Rules", "SeqEnd", "SessionLine", "Sessions", "SessionsFull", "Shown", "Sides", "Site", "SiteLine", "Stat", "State",
     "StateId", "States", "Tidied", "TooMany", "TooManyConnections", "TrailFull", "Transaction", "TxnOpen", "UNKNOWN", "Unknown", "Unresolved",
     "Unsupported", "Value", "Write", "WrongMode", "by_prefix", "connect", "counter", "last_writer", "merge_text",
     "three_way_text", "union_of", "union_of_lines",

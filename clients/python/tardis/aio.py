@@ -137,6 +137,11 @@ class _Link(asyncio.Protocol):
         self._lose(self.conversation.ended())
 
     def connection_lost(self, fault: Optional[Exception]) -> None:
+        if isinstance(fault, OSError) and self.transport is not None:
+            # what came before it broke isn't read by the transport any more
+            with contextlib.suppress(OSError, ProtocolError), self.transport.get_extra_info("socket").dup() as rest:
+                rest.setblocking(False)
+                self.conversation.take(rest.recv(1 << 16))
         self._lose(fault or self.conversation.ended())
 
     def _lose(self, fault: BaseException) -> None:

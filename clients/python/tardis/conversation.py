@@ -20,8 +20,9 @@ T = TypeVar("T")
 FIRST_QUESTION = bytes((min(QuestionCode),))
 ASKS_BASE = bytes((QuestionCode.BASE,))
 OPENS = bytes((RequestCode.OPEN,))
-#: how the one frame begins that a server sends to a connection for which it has no place: its length, and `refused sessionsfull`
-TURNED_AWAY = b"\0\0\0\x04\x15\x04"
+#: how the one frame begins that a server sends to a connection for which it has no place: its length, and `refused connectionsfull`,
+#: or of an older server `refused sessionsfull`
+TURNED_AWAY = (b"\0\0\0\x06\x15\x1e", b"\0\0\0\x04\x15\x04")
 
 
 class Answer(Generic[T]):
@@ -124,13 +125,19 @@ class Conversation:
             place += 4 + length
         if place:
             del self._held[:place]
-        is_turned_away = not self._is_answered and TURNED_AWAY.startswith(self._held[:len(TURNED_AWAY)])
+        is_turned_away = not self._is_answered and any(begin.startswith(self._held[:len(begin)]) for begin in TURNED_AWAY)
         if self._held and not self._waiting and not is_turned_away:
             raise ProtocolError("a reply came that nobody asked for")
 
     def _give(self, body: bytes) -> None:
-        reply = read_reply(body)
         asked = self._waiting[0].request.body[:1] if self._waiting else b""
+        try:
+            reply = read_reply(body)
+        except TooManyConnections as fault:
+            if self._is_answered:
+                raise ProtocolError("a connection was turned away that was taken") from None
+            self.turned_away = fault
+            raise
         if isinstance(reply, SessionsFull) and not self._is_answered and asked != OPENS:
             self.turned_away = TooManyConnections(reply.sessions)
             raise self.turned_away

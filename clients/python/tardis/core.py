@@ -115,7 +115,7 @@ class Core:
             yield from self._follow(ended)
             return Finished(None, (), False, ())
         leaves = States(0, ()) if leaving.error is not None else leaving.result()
-        if leaves.total <= 1:
+        if leaves.first in ((), (ended.id,)):
             return Finished(ended.id, ended.parents, False, ())
         forked = yield from self._is_later_child(ended)
         beside = yield from self._beside(ended.id, leaves)

@@ -123,22 +123,27 @@ class Kept:
             again, self.told = list(self.told), {}
             if (yield from self._ask(again)) is None:
                 return False
-        wanted: Sequence[StateId] = leaves
-        while wanted:
-            found = yield from self._ask(self._and_before(wanted))
-            if found is None:
-                return False
-            wanted = yield from self._neighbours(found)
-        # more leaves than the site lists, or branches behind collected states: by their numbers, the newest first
+        if not (yield from self._ascend(leaves)):
+            return False
+        # where there are more leaves than the site lists: by their numbers, the newest first
         rest = self._others(stat)
         for _ in range(MOST_ROUNDS):
             part = [] if len(self.told) >= stat.kept else [state for _, state in zip(range(AT_ONCE), rest)]
             if not part:
                 break
-            yield from self._ask(part)
+            yield from self._ascend(part)
         self._collected = collected
         if len(self._gone) > 2 * MOST_REMEMBERED:
             self._gone.clear()
+        return True
+
+    def _ascend(self, wanted: Sequence[StateId]) -> Steps[bool]:
+        """Asks for these states and for what lies above them, as far as it isn't known. False where the server doesn't answer."""
+        while wanted:
+            found = yield from self._ask(self._and_before(wanted))
+            if found is None:
+                return False
+            wanted = yield from self._above(found)
         return True
 
     def _ask(self, states: Sequence[StateId]) -> Steps[Optional[Dict[StateId, Recorded]]]:
@@ -162,16 +167,16 @@ class Kept:
                                        if self._is_new(state)))
         return list(asked)
 
-    def _neighbours(self, found: Dict[StateId, Recorded]) -> Steps[List[StateId]]:
-        """The kept states beside these that aren't known yet: parents, children, and the forks above collected parents."""
+    def _above(self, found: Dict[StateId, Recorded]) -> Steps[List[StateId]]:
+        """The kept parents of these that aren't known yet, and the forks above collected parents."""
         self._ahead = min(AT_ONCE, 2 * self._ahead)
-        beside = [state for told in found.values() for state in (*told.kept_parents, *told.kept_children)]
+        above = [state for told in found.values() for state in told.kept_parents]
         torn = [state for state, told in found.items() if len(told.kept_parents) < len(told.parents)]
         if torn:
             self._ahead = 1
             answers = yield from ask_all([requests.show(state) for state in torn])
-            beside += [fork for answer in answers if answer.error is None for fork, _ in answer.result().path]
-        return [state for state in dict.fromkeys(beside) if self._is_new(state)]
+            above += [fork for answer in answers if answer.error is None for fork, _ in answer.result().path]
+        return [state for state in dict.fromkeys(above) if self._is_new(state)]
 
     def _others(self, stat: Stat) -> Iterator[StateId]:
         for site, line in enumerate(stat.sites, 1):

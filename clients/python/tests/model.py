@@ -8,6 +8,7 @@ import os
 import socket
 import struct
 import threading
+import time
 
 ROOT = (0, 0)
 NOT_OPEN, ALREADY_OPEN, TXN_OPEN, NO_TXN, WRONG_MODE, TOO_MANY, UNKNOWN, BELOW, COMPARABLE, NOT_READ, CONFLICT_KEY, OPEN_CONFLICT, BRANCHES, \
@@ -441,9 +442,9 @@ class ModelServer:
     """Serves a model to all that come, a thread each. `also` has further paths, with what is let in there. Who comes when there are as
     many connections as there may be is told so, and sent away."""
 
-    def __init__(self, path, answers_questions=True, also=(), connections=None):
+    def __init__(self, path, answers_questions=True, also=(), connections=None, turned_away=b"\0\0\0\x06\x15\x1e\0\0"):
         self.model, self.lock, self.actors = Model(answers_questions), threading.Lock(), itertools.count(1)
-        self.links, self.connections, self.listeners = [], connections, []
+        self.links, self.connections, self.turned_away, self.listeners = [], connections, turned_away, []
         for place, role in [(path, "all"), *dict(also).items()]:
             if os.path.exists(place):
                 os.unlink(place)
@@ -461,7 +462,9 @@ class ModelServer:
                 return
             if self.connections is not None and len(self.links) >= self.connections:
                 with link:
-                    link.sendall(b"\0\0\0\x04\x15\x04" + struct.pack(">H", self.connections))
+                    # (by then who connected goes on)
+                    time.sleep(0.03)
+                    link.sendall(self.turned_away + struct.pack(">H", self.connections))
                 continue
             self.links.append(link)
             threading.Thread(target=self.serve, args=(link, next(self.actors), role), daemon=True).start()
@@ -505,7 +508,6 @@ class ModelServer:
 
 if __name__ == "__main__":
     import sys
-    import time
     ModelServer(sys.argv[1])
     print("tardisd: site 1 of 1 listens at unix:" + sys.argv[1], file=sys.stderr, flush=True)
     time.sleep(float(sys.argv[2]) if sys.argv[2:] else 1e9)

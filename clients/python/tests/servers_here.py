@@ -119,5 +119,5 @@ class OfOldModel(OfModel):
     answers_questions = False
 
 
-__all__ = ["CLIENT", "HERE", "OfModel", "OfOldModel", "OfServe", "OfTardisd", "OverServers", "PATIENCE", "TARDIS", "TARDISD", "TOP", "free_port", "has_word", "is_built",
+__all__ = ["CLIENT", "HERE", "OfModel", "OfOldModel", "OfServe", "OfTardisd", "OverServers", "PATIENCE", "Process", "TARDIS", "TARDISD", "TOP", "free_port", "has_word", "is_built",
            "keeping_history", "tardis"]

@@ -12,6 +12,8 @@ import unittest
 from servers_here import CLIENT, PATIENCE, OfModel, OfTardisd, OverServers, tardis
 
 import tardis.aio  # noqa: E402
+from tardis import requests  # noqa: E402
+from tardis.conversation import Answer, Conversation  # noqa: E402
 from tardis.pictures import as_text  # noqa: E402
 from tardis.web import Looker  # noqa: E402
 
@@ -180,9 +182,10 @@ class Room(OverServers):
 
         async def awaited():
             for call in (lambda site: site.open(), lambda site: site.stat()):
-                for pause in (0, 0.1):
+                for pause in (0, 0.1, -0.1):
                     async with await tardis.aio.connect(self.address, PATIENCE) as site:
-                        await asyncio.sleep(pause)
+                        # (below 0 nothing is read meanwhile, so that what is written then finds the connection ended)
+                        time.sleep(-pause) if pause < 0 else await asyncio.sleep(pause)
                         with self.assertRaises(tardis.TooManyConnections):
                             await call(site)
 
@@ -196,6 +199,33 @@ class Room(OverServers):
                 break
             except tardis.TooManyConnections:
                 time.sleep(0.05)
+
+
+class Turned(unittest.TestCase):
+    def test_what_is_no_turning_away(self):
+        """One that finds no session stays connected; and no connection that was taken is turned away."""
+        full = b"\0\0\0\x04\x15\x04\1\0"
+        conversation = Conversation(lambda request, reply: None)
+        opening, asking = Answer(requests.open_session(True)), Answer(requests.stat())
+        conversation.ask([opening])
+        conversation.take(full)
+        self.assertRaises(tardis.SessionsFull, opening.result)
+        self.assertIsInstance(conversation.may_be_turned_away, tardis.TooManyConnections)
+        conversation.ask([asking])
+        conversation.take(b"\0\0\0\1\x16")
+        self.assertRaises(tardis.NoMemory, asking.result)
+        self.assertEqual((conversation.may_be_turned_away, type(conversation.ended())), (None, tardis.Disconnected))
+        conversation.ask([Answer(requests.stat())])
+        self.assertRaises(tardis.ProtocolError, conversation.take, b"\0\0\0\x06\x15\x1e\0\0\1\0")
+        # in pieces, before anything was asked
+        for spelled, count in (full, 256), (b"\0\0\0\x06\x15\x1e\0\0\x10\0", 4096):
+            conversation = Conversation(lambda request, reply: None)
+            for place in range(len(spelled) - 1):
+                conversation.take(spelled[place:place + 1])
+            with self.assertRaises(tardis.TooManyConnections) as caught:
+                conversation.take(spelled[-1:])
+            self.assertEqual(caught.exception.connections, count)
+            self.assertRaises(tardis.ProtocolError, Conversation(lambda request, reply: None).take, spelled[:5] + b"\x05")
 
 
 class ListenersOfTardisd(OfTardisd, Listeners):
@@ -212,6 +242,15 @@ class RoomOfTardisd(OfTardisd, Room):
 
 class RoomOfModel(OfModel, Room):
     pass
+
+
+class RoomOfOldModel(OfModel, Room):
+    """A server that says `sessionsfull` of connections, as of sessions."""
+
+    def start(self, address):
+        server = super().start(address)
+        server.turned_away = b"\0\0\0\x04\x15\x04"
+        return server
 
 
 del Listeners, Room
