@@ -36,7 +36,11 @@ slow_rule requests full = record {
   requests = requests;
   full = full;
   idle = [];
+  held = [];
   later = 64;
+  soon = 18446744073709551615;
+  late = [];
+  wait = 1;
 }
 
 -- which session's ceiling is the oldest, and how much is kept: the edge is told of both, so it knows the one when it is told the other
@@ -59,7 +63,11 @@ joining_rule requests = record {
   requests = requests;
   full = JOIN ∷ JOINED ∷ [];
   idle = JOIN ∷ LEFT ∷ [];
+  held = [];
   later = 64;
+  soon = 18446744073709551615;
+  late = [];
+  wait = 1;
 }
 
 -- With rules two leaves are joined by them; with `--tidy` too the floor is raised before that, and up to 4,096 states are collected.

@@ -190,7 +190,11 @@ fn slow_upkeep<'a>(requests: &'a [&'a [u8]], full: &'a [u8]) -> Upkeep<'a>
         requests,
         full,
         idle: &[],
+        held: &[],
         later: 64,
+        soon: u64::MAX,
+        late: &[],
+        wait: 1,
     }
 }
 
@@ -205,7 +209,11 @@ fn join_upkeep<'a>(requests: &'a [&'a [u8]]) -> Upkeep<'a>
         requests,
         full: &TWO_JOINED,
         idle: &LEFT_APART,
+        held: &[],
         later: 64,
+        soon: u64::MAX,
+        late: &[],
+        wait: 1,
     }
 }
 
