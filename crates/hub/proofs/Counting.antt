@@ -7,7 +7,7 @@ use Rattle.site_peers.specs.declared.deeds.Deed.{Deed}
 use Rattle.site_peers.specs.Moves.{News}
 use Rattle.site_peers.specs.Runs.{TurnsAreShort}
 use Rattle.site_peers.specs.Turns.{Turned}
-use Rattle.hub.specs.Upkeeps.{UpkeepRule, TallyState, is_counted, counted_by, noted}
+use Rattle.hub.specs.Upkeeps.{UpkeepRule, TallyState, is_counted, counted_by, with_count, noted}
 use Rattle.hub.specs.Answering.{asks}
 use Rattle.hub.specs.Noting.{Noted, noting}
 use Rattle.hub.specs.Peers.{Asks}
@@ -21,7 +21,7 @@ want_none (Some rule) ys = refl
 noted_want : (tally next : TallyState) (y : List ℕ) (ys : List (List ℕ)) → y ≡ no_memory → next ≡ noted tally ys → next ≡ noted tally (y ∷ ys)
 noted_want tally next y ys is p =
     p
-    ∙ (ap (λ n. record { rule = tally.rule; count = tally.count + n; more = tally.more; idle = tally.idle; backlog = tally.backlog }) (sym (want_none tally.rule ys))
+    ∙ (ap (λ n. with_count tally (tally.count + n)) (sym (want_none tally.rule ys))
     ∙ ap (λ z. noted tally (z ∷ ys)) (sym is))
 
 -- what answers with the count answers without it, and all replies are counted

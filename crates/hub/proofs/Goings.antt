@@ -20,7 +20,7 @@ use Rattle.hub.specs.Upkeeps.{TallyState}
 use Rattle.hub.specs.Peers.{offer_of, moved, carried_out, MayTell, HasNothingFor, AnsweredFor, Asks}
 use Rattle.hub.specs.Turns.{Turn, Rested, PeerDid, talk, its_own, turns_of, IsPeer}
 use Rattle.hub.specs.Runs.{MaySend}
-use Rattle.hub.specs.Keeping.{Keeps, Settles, AreBefore, WentOn, IsToldBehind, FetchesOn, IsOnly, PeerTurned}
+use Rattle.hub.specs.Keeping.{Keeps, Settles, AreBefore, WentOn, IsNoted, IsToldBehind, FetchesOn, IsOnly, PeerTurned}
 use Rattle.hub.proofs.Holding.{each_talk}
 use Rattle.hub.proofs.Serving.{noted_none}
 use Rattle.hub.proofs.Tellings.{tells_none}
@@ -52,7 +52,7 @@ did : {S : Type 0} (w : PlainSettling S) (scope : Scope) (mid to : S → Type 0)
     (keeps : Keeps w scope mid s connections old earlier) → AreBefore turns earlier → MaySend w keeps.state t.news → IsOnly n p q old new →
     MayTell p offered t.news → Moves p t.now t.bodies t.replies t.deed q t.news → AnsweredFor w.machine to t.bodies t.replies tally next keeps.state →
     Tells before after (moved n offered t.news ++ carried_out n t.deed) →
-    WentOn w scope to s connections new turns tally next (IsToldBehind (OfPeer n t.now (offer_of t.news)) before after)
+    WentOn w scope to s connections new turns (IsNoted tally next) (IsToldBehind (OfPeer n t.now (offer_of t.news)) before after)
 did w scope mid to connections old new n offered p q t tally next before after s turns earlier keeps behind may only tells moves a told = record {
   earlier = earlier;
   behind = behind;
@@ -122,7 +122,7 @@ rests : {S : Type 0} (w : PlainSettling S) (scope : Scope) (from : S → Type 0)
     (news : PeerNews) (tally : TallyState) (before after : Option (List Seen)) (s : S) (turns : List Turn) (keeps : Keeps w scope from s connections old turns) →
     ((k : ℕ) → slice_get new k ≡ slice_get old k) → length new ≡ length old → after ≡ before →
     (scope.peers ≤ n) ⊎ ((p : Peer) × IsPeer scope turns n p × HasNothingFor p news) →
-    WentOn w scope from s connections new turns tally tally (IsToldBehind (OfPeer n now news) before after)
+    WentOn w scope from s connections new turns (IsNoted tally tally) (IsToldBehind (OfPeer n now news) before after)
 rests w scope from connections old new n now news tally before after s turns keeps unchanged many none may = record {
   earlier = turns;
   behind = inl refl;

@@ -17,12 +17,13 @@ use Rattle.hub.specs.declared.serves.End.TheVariants.{Stopped, Spent, Unsettled}
 use Rattle.hub.specs.Settlings.{PlainSettling}
 use Rattle.hub.specs.Connections.{ConnectionState, connection_at}
 use Rattle.hub.specs.Telling.{Tells, own_replies}
-use Rattle.hub.specs.Upkeeps.{UpkeepRule, TallyState, first_tally, noted, passed, paid, due_by, due_under, wanted, ends_with}
+use Rattle.hub.specs.declared.upkeeps.LastReply.{LastReply}
+use Rattle.hub.specs.Upkeeps.{UpkeepRule, TallyState, first_tally, noted, passed, paid, said, asked, waited_by, is_due, due_by, due_under}
 use Rattle.hub.specs.Answering.{Asked}
 use Rattle.hub.specs.Turns.{Turn, Rested, Opened, Missed, TurnedAway, Received, Sent, Ended, KeptUp, Settled, PeerDid, talk, turns_of, IsPeer, ArePeers, calls_of, calls_in}
-use Rattle.hub.specs.Timing.{unpaid, has_more, has_idle, has_backlog, due, IsTimely, AreTimely}
+use Rattle.hub.specs.Timing.{told_time, heard, said_by, tally_after, tally_of, requests_by, due, IsTimely, AreTimely}
 use Rattle.hub.specs.Runs.{counts, count_of, IsWanted, IsRun}
-use Rattle.hub.specs.Keeping.{Fits, Keeps, IsNoted, IsTally, AreBefore, WentOn, IsToldBehind, IsTold, GoesOn, FetchesOn, Turned, PeerWaits, HasWaiting, IsUnsettled, Led}
+use Rattle.hub.specs.Keeping.{Fits, Keeps, IsNoted, IsHeard, AreBefore, WentOn, IsToldBehind, IsTold, GoesOn, FetchesOn, Turned, PeerWaits, HasWaiting, IsUnsettled, Led}
 use Rattle.hub.proofs.Holding.{each_talk}
 use Rattle.hub.proofs.Tellings.{tells_none, tells_then}
 use Rattle.hub.proofs.Turning.{waits_at}
@@ -35,35 +36,49 @@ tells_no_more (Some seen) calls = tt
 pub tells_lost : (o n : Option (List Seen)) (calls : List Seen) → n ≡ None → Tells o n calls
 tells_lost o n calls none = subst (λ z. Tells o z calls) (sym none) (tells_no_more o calls)
 
+-- a turn that began with an offer told the time that this tells
+abbrev offer_first : List Seen → Ready
+offer_first (Offered offer ∷ calls) = offer
+offer_first _ = Stop
+
+heard_of : (tally next : TallyState) (offer : Ready) (calls : List Seen) (turn : Turn) → calls_of turn ≡ Offered offer ∷ calls →
+    IsNoted (told_time tally offer) next turn → heard tally turn ≡ told_time tally offer
+heard_of tally next offer calls (Rested other) is p = ap (λ c. told_time tally (offer_first c)) is
+heard_of tally next offer calls (Opened slot door) is p = ap (λ c. told_time tally (offer_first c)) is
+heard_of tally next offer calls (Missed slot) is p = ap (λ c. told_time tally (offer_first c)) is
+heard_of tally next offer calls TurnedAway is p = ap (λ c. told_time tally (offer_first c)) is
+heard_of tally next offer calls (Received slot room came bodies replies) is p = ap (λ c. told_time tally (offer_first c)) is
+heard_of tally next offer calls (Sent slot offered wrote bodies replies) is p = ap (λ c. told_time tally (offer_first c)) is
+heard_of tally next offer calls (Ended slot) is p = ap (λ c. told_time tally (offer_first c)) is
+heard_of tally next offer calls (PeerDid peer offered t) is p = ap (λ c. told_time tally (offer_first c)) is
+heard_of tally next offer calls (KeptUp bodies replies) is p = absurd p
+heard_of tally next offer calls Settled is p = absurd p
+
 -- an offer, and what was done of it
 wholly : {S : Type 0} (w : PlainSettling S) (scope : Scope) (to : S → Type 0) (s : S) (connections : List (Option ConnectionState)) (peers : List Peer)
     (turns : List Turn) (offer : Ready) (tally next : TallyState) (a b c : Option (List Seen)) → Tells a b (Offered offer ∷ []) →
-    WentOn w scope to s connections peers turns tally next (IsToldBehind offer b c) → WentOn w scope to s connections peers turns tally next (IsTold a c)
+    WentOn w scope to s connections peers turns (IsNoted (told_time tally offer) next) (IsToldBehind offer b c) →
+    WentOn w scope to s connections peers turns (IsHeard tally next) (IsTold a c)
 wholly w scope to s connections peers turns offer tally next a b c p on = record {
   earlier = on.earlier;
   behind = on.behind;
   turn = on.turn;
   keeps = on.keeps;
-  noted = on.noted;
+  noted = subst (λ t. IsNoted t next on.turn) (sym (heard_of tally next offer on.told.0 on.turn on.told.1.0 on.noted)) on.noted;
   told = subst (λ calls. Tells a c calls) (sym on.told.1.0) (tells_then a b c (Offered offer ∷ []) on.told.0 p on.told.1.1);
 }
 
 pub turned : {S : Type 0} (w : PlainSettling S) (from to : S → Type 0) (old new : List (Option ConnectionState)) (peers : List Peer) (offer : Ready)
-    (tally next : TallyState) (a b c : Option (List Seen)) → Tells a b (Offered offer ∷ []) → GoesOn w from to old new offer tally next b c →
+    (tally next : TallyState) (a b c : Option (List Seen)) → Tells a b (Offered offer ∷ []) → GoesOn w from to old new offer (told_time tally offer) next b c →
     Turned w from to old new peers peers tally next a c
 turned w from to old new peers offer tally next a b c p goes scope s turns keeps =
     wholly w scope to s new peers turns offer tally next a b c p (goes scope peers s turns keeps)
 
 pub fetched : {S : Type 0} (w : PlainSettling S) (from to : S → Type 0) (connections : List (Option ConnectionState)) (old new : List Peer) (offer : Ready)
-    (tally next : TallyState) (a b c : Option (List Seen)) → Tells a b (Offered offer ∷ []) → FetchesOn w from to old new offer tally next b c →
-    Turned w from to connections connections old new tally next a c
+    (tally next : TallyState) (a b c : Option (List Seen)) → Tells a b (Offered offer ∷ []) →
+    FetchesOn w from to old new offer (told_time tally offer) next b c → Turned w from to connections connections old new tally next a c
 fetched w from to connections old new offer tally next a b c p goes scope s turns keeps =
     wholly w scope to s connections new turns offer tally next a b c p (goes scope connections s turns keeps)
-
--- no turn yet
-tally_start : (rule : Option UpkeepRule) → IsTally rule (first_tally rule) []
-tally_start None = refl
-tally_start (Some rule) = refl
 
 -- the peers are fresh
 each_fresh : (scope : Scope) (peers : List Peer) → length peers ≡ scope.peers →
@@ -94,43 +109,28 @@ led_start w rule scope from s connections peers tally a f free slots many all wh
   seen = tells_none a;
   many = refl;
   timely = tt;
-  tallied = subst (λ t. IsTally rule t []) (sym whole) (tally_start rule);
+  tallied = whole;
 }
 
 -- what is due is what the tally says
-requests_if : (rule : UpkeepRule) (b : Bool) → (if b then Some rule.requests else None) ≡ option_map (λ r. r.requests) (if b then Some rule else None)
-requests_if rule true = refl
-requests_if rule false = refl
-
-pub due_is : (rule : Option UpkeepRule) (tally : TallyState) (turns : List Turn) → IsTally rule tally turns → due rule turns ≡ option_map (λ r. r.requests) (due_by tally)
-due_is None tally turns is = ap (λ rule. option_map (λ r. r.requests) (due_under rule tally.count tally.idle tally.backlog)) (sym is)
-due_is (Some rule) tally turns is =
-    requests_if rule (nat_le (wanted rule (has_idle rule.idle turns)) (unpaid rule turns) || has_backlog rule.full turns) ∙ ap (λ t. option_map (λ r. r.requests) (due_by t)) (sym is)
+pub due_is : (rule : Option UpkeepRule) (tally : TallyState) (turns : List Turn) → tally ≡ tally_of rule turns → due rule turns ≡ requests_by tally
+due_is rule tally turns is = ap (λ t. requests_by t) (sym is)
 
 -- and none is due where it says none
-pub due_none : (rule : Option UpkeepRule) (tally : TallyState) (turns : List Turn) → IsTally rule tally turns → due_by tally ≡ None → due rule turns ≡ None
-due_none rule tally turns is none = due_is rule tally turns is ∙ ap (option_map (λ (r : UpkeepRule). r.requests)) none
+pub due_none : (rule : Option UpkeepRule) (tally : TallyState) (turns : List Turn) → tally ≡ tally_of rule turns → due_by tally ≡ None → due rule turns ≡ None
+due_none rule tally turns is none = due_is rule tally turns is ∙ ap (λ o. option_map (λ (r : UpkeepRule). asked r (waited_by tally)) o) none
 
 -- what is due is the rule
 if_some : (rule other : UpkeepRule) (b : Bool) → (if b then Some rule else None) ≡ Some other → Some rule ≡ Some other
 if_some rule other true is = is
 if_some rule other false is = absurd (cc)
 
-under_rule : (rule : Option UpkeepRule) (other : UpkeepRule) (count : ℕ) (idle backlog : Bool) → due_under rule count idle backlog ≡ Some other →
-    rule ≡ Some other
-under_rule None other count idle backlog is = absurd (cc)
-under_rule (Some rule) other count idle backlog is = if_some rule other (nat_le (wanted rule idle) count || backlog) is
-
-rule_in : (rule : Option UpkeepRule) (tally : TallyState) (turns : List Turn) → IsTally rule tally turns → tally.rule ≡ rule
-rule_in None tally turns is = is
-rule_in (Some rule) tally turns is = ap (λ t. t.rule) is
-
-due_rule : (rule : Option UpkeepRule) (tally : TallyState) (turns : List Turn) (other : UpkeepRule) → IsTally rule tally turns → due_by tally ≡ Some other →
-    rule ≡ Some other
-due_rule rule tally turns other is some = sym (rule_in rule tally turns is) ∙ under_rule tally.rule other tally.count tally.idle tally.backlog some
+under_rule : (rule : Option UpkeepRule) (other : UpkeepRule) (tally : TallyState) → due_under rule tally ≡ Some other → rule ≡ Some other
+under_rule None other tally is = absurd (cc)
+under_rule (Some rule) other tally is = if_some rule other (is_due rule tally) is
 
 -- the next turn is one of the edge where nothing is due
-timely_more : (rule : Option UpkeepRule) (tally next : TallyState) (older : List Turn) (turn : Turn) → IsNoted tally next turn → due rule older ≡ None →
+timely_more : (rule : Option UpkeepRule) (tally next : TallyState) (older : List Turn) (turn : Turn) → IsHeard tally next turn → due rule older ≡ None →
     IsTimely rule older turn
 timely_more rule tally next older (Rested offer) p none = none
 timely_more rule tally next older (Opened slot door) p none = none
@@ -144,30 +144,19 @@ timely_more rule tally next older (KeptUp bodies replies) p none = absurd p
 timely_more rule tally next older Settled p none = absurd p
 
 -- and its replies are counted
-tally_more : (rule : Option UpkeepRule) (tally next : TallyState) (older : List Turn) (turn : Turn) → IsTally rule tally older → IsNoted tally next turn →
-    IsTally rule (passed next) (turn ∷ older)
-tally_more None tally next older (Rested offer) is p = ap (λ t. t.rule) p ∙ is
-tally_more None tally next older (Opened slot door) is p = ap (λ t. t.rule) p ∙ is
-tally_more None tally next older (Missed slot) is p = ap (λ t. t.rule) p ∙ is
-tally_more None tally next older TurnedAway is p = ap (λ t. t.rule) p ∙ is
-tally_more None tally next older (Received slot room came bodies replies) is p = ap (λ t. t.rule) p ∙ is
-tally_more None tally next older (Sent slot offered wrote bodies replies) is p = ap (λ t. t.rule) p ∙ is
-tally_more None tally next older (Ended slot) is p = ap (λ t. t.rule) p ∙ is
-tally_more None tally next older (PeerDid peer offered t) is p = ap (λ t. t.rule) p ∙ is
-tally_more None tally next older (KeptUp bodies replies) is p = absurd p
-tally_more None tally next older Settled is p = absurd p
-tally_more (Some rule) tally next older (Rested offer) is p = ap passed (p ∙ is)
-tally_more (Some rule) tally next older (Opened slot door) is p = ap passed (p ∙ is)
-tally_more (Some rule) tally next older (Missed slot) is p = ap passed (p ∙ is)
-tally_more (Some rule) tally next older TurnedAway is p = ap passed (p ∙ is)
-tally_more (Some rule) tally next older (Received slot room came bodies replies) is p = ap passed (p ∙ ap (λ t. noted t replies) is)
-tally_more (Some rule) tally next older (Sent slot offered wrote bodies replies) is p = ap passed (p ∙ ap (λ t. noted t replies) is)
-tally_more (Some rule) tally next older (Ended slot) is p = ap passed (p ∙ is)
-tally_more (Some rule) tally next older (PeerDid peer offered t) is p = ap passed (p ∙ ap (λ tally. noted tally t.replies) is)
-tally_more (Some rule) tally next older (KeptUp bodies replies) is p = absurd p
-tally_more (Some rule) tally next older Settled is p = absurd p
+tally_more : (tally next : TallyState) (turn : Turn) → IsHeard tally next turn → passed next ≡ tally_after tally turn
+tally_more tally next (Rested offer) p = ap passed p
+tally_more tally next (Opened slot door) p = ap passed p
+tally_more tally next (Missed slot) p = ap passed p
+tally_more tally next TurnedAway p = ap passed p
+tally_more tally next (Received slot room came bodies replies) p = ap passed p
+tally_more tally next (Sent slot offered wrote bodies replies) p = ap passed p
+tally_more tally next (Ended slot) p = ap passed p
+tally_more tally next (PeerDid peer offered t) p = ap passed p
+tally_more tally next (KeptUp bodies replies) p = absurd p
+tally_more tally next Settled p = absurd p
 
-counts_one : (tally next : TallyState) (turn : Turn) → IsNoted tally next turn → counts turn ≡ 1
+counts_one : (tally next : TallyState) (turn : Turn) → IsHeard tally next turn → counts turn ≡ 1
 counts_one tally next (Rested offer) p = refl
 counts_one tally next (Opened slot door) p = refl
 counts_one tally next (Missed slot) p = refl
@@ -180,22 +169,14 @@ counts_one tally next (KeptUp bodies replies) p = absurd p
 counts_one tally next Settled p = absurd p
 
 -- what is so of turns and doesn't look at a settling is so where one is behind them
-tally_settled : (rule : Option UpkeepRule) (tally : TallyState) (turns : List Turn) → IsTally rule tally turns → IsTally rule tally (Settled ∷ turns)
-tally_settled None tally turns is = is
-tally_settled (Some rule) tally turns is = is
-
-due_settled : (rule : Option UpkeepRule) (turns : List Turn) → due rule turns ≡ None → due rule (Settled ∷ turns) ≡ None
-due_settled None turns none = refl
-due_settled (Some rule) turns none = none
-
 record Behind (rule : Option UpkeepRule) (tally : TallyState) (turns earlier : List Turn) : Type 0 where
   calls : calls_in earlier ≡ calls_in turns
   many : count_of earlier ≡ count_of turns
   timely : AreTimely rule earlier
-  tallied : IsTally rule tally earlier
+  tallied : tally ≡ tally_of rule earlier
   none : due rule earlier ≡ None
 
-behind_is : (rule : Option UpkeepRule) (tally : TallyState) (turns earlier : List Turn) → AreBefore turns earlier → AreTimely rule turns → IsTally rule tally turns →
+behind_is : (rule : Option UpkeepRule) (tally : TallyState) (turns earlier : List Turn) → AreBefore turns earlier → AreTimely rule turns → tally ≡ tally_of rule turns →
     due rule turns ≡ None → Behind rule tally turns earlier
 behind_is rule tally turns earlier behind timely tallied none =
     let more : count_of turns + 0 ≡ count_of turns = omega arith in
@@ -205,33 +186,18 @@ behind_is rule tally turns earlier behind timely tallied none =
         calls = append-nil (calls_in turns);
         many = more;
         timely = (none, timely);
-        tallied = tally_settled rule tally turns tallied;
-        none = due_settled rule turns none;
+        tallied = tallied;
+        none = none;
       })
     ]
 
 -- an upkeep pays off what it says
-kept_under : (rule : UpkeepRule) (tally next : TallyState) (more idle : Bool) (bodies replies : List (List ℕ)) (older : List Turn) →
-    IsTally (Some rule) tally older → next ≡ paid tally rule.pays more idle → more ≡ ends_with rule.full replies → idle ≡ ends_with rule.idle replies →
-    IsTally (Some rule) next (KeptUp bodies replies ∷ older)
-kept_under rule tally next more idle bodies replies older is pays says_full says_idle =
-    let left : TallyState = record {
-      rule = Some rule;
-      count = unpaid rule older;
-      more = has_more rule.full older;
-      idle = has_idle rule.idle older;
-      backlog = has_backlog rule.full older;
-    } in
-    pays
-    ∙ (ap (λ t. paid t rule.pays more idle) is
-    ∙ (ap (λ b. paid left rule.pays b idle) says_full ∙ ap (λ b. paid left rule.pays (ends_with rule.full replies) b) says_idle))
-
-kept_tally : (rule : Option UpkeepRule) (other : UpkeepRule) (tally next : TallyState) (more idle : Bool) (bodies replies : List (List ℕ))
-    (older : List Turn) → rule ≡ Some other → IsTally rule tally older → next ≡ paid tally other.pays more idle → more ≡ ends_with other.full replies →
-    idle ≡ ends_with other.idle replies → IsTally rule next (KeptUp bodies replies ∷ older)
-kept_tally rule other tally next more idle bodies replies older same is pays says_full says_idle =
-    subst (λ r. IsTally r next (KeptUp bodies replies ∷ older)) (sym same)
-    (kept_under other tally next more idle bodies replies older (subst (λ r. IsTally r tally older) same is) pays says_full says_idle)
+kept_tally : (rule : Option UpkeepRule) (other : UpkeepRule) (tally next : TallyState) (last : LastReply) (bodies replies : List (List ℕ)) (older : List Turn) →
+    tally.rule ≡ Some other → tally ≡ tally_of rule older → next ≡ paid tally last → last ≡ said other replies →
+    next ≡ tally_of rule (KeptUp bodies replies ∷ older)
+kept_tally rule other tally next last bodies replies older same is pays says =
+    let by : last ≡ said_by tally.rule replies = says ∙ ap (λ r. said_by r replies) (sym same) in
+    pays ∙ (ap (λ l. paid tally l) by ∙ ap (λ t. paid t (said_by t.rule replies)) is)
 
 -- one turn of the edge more
 pub led_more : {S : Type 0} (w : PlainSettling S) (rule : Option UpkeepRule) (scope : Scope) (from to : S → Type 0) (s : S)
@@ -248,21 +214,20 @@ led_more w rule scope from to s old new old_peers new_peers tally next later a b
       seen = tells_then a b c (calls_in on.earlier) (calls_of on.turn) (subst (λ calls. Tells a b calls) (sym behind.calls) led.seen) on.told;
       many = omega (arith, led.many, behind.many, one);
       timely = (timely_more rule tally next on.earlier on.turn on.noted behind.none, behind.timely);
-      tallied = subst (λ t. IsTally rule t (on.turn ∷ on.earlier)) (sym passes)
-          (tally_more rule tally next on.earlier on.turn behind.tallied on.noted);
+      tallied = passes ∙ (tally_more tally next on.turn on.noted ∙ ap (λ t. tally_after t on.turn) behind.tallied);
     }
 
 -- an upkeep more
 pub led_kept : {S : Type 0} (w : PlainSettling S) (rule : Option UpkeepRule) (scope : Scope) (from to : S → Type 0) (s : S)
     (connections : List (Option ConnectionState)) (peers : List Peer)
-    (tally next : TallyState) (a b c : Option (List Seen)) (count : ℕ) (other : UpkeepRule) (more idle : Bool) → Led w rule scope from s connections peers tally a b count →
-    due_by tally ≡ Some other → next ≡ paid tally other.pays more idle →
-    ((u : S) → from u → Asked w.machine to other.requests other.full other.idle more idle b c u) →
+    (tally next : TallyState) (a b c : Option (List Seen)) (count : ℕ) (other : UpkeepRule) (last : LastReply) → Led w rule scope from s connections peers tally a b count →
+    due_by tally ≡ Some other → next ≡ paid tally last →
+    ((u : S) → from u → Asked w.machine to (asked other (waited_by tally)) other last b c u) →
     Led w rule scope to s connections peers next a c (count + 1)
-led_kept w rule scope from to s connections peers tally next a b c count other more idle led is pays asked =
-    let k = asked led.keeps.state led.keeps.stands in
+led_kept w rule scope from to s connections peers tally next a b c count other last led is pays answered =
+    let k = answered led.keeps.state led.keeps.stands in
     record {
-      turns = KeptUp other.requests k.replies ∷ led.turns;
+      turns = KeptUp (asked other (waited_by tally)) k.replies ∷ led.turns;
       keeps = record {
         state = k.state;
         ran = (led.keeps.state, (led.keeps.ran, k.answers));
@@ -275,9 +240,12 @@ led_kept w rule scope from to s connections peers tally next a b c count other m
       };
       seen = tells_then a b c (calls_in led.turns) (own_replies k.replies) led.seen k.told;
       many = omega (arith, led.many);
-      timely = (due_is rule tally led.turns led.tallied ∙ ap (option_map (λ (r : UpkeepRule). r.requests)) is, led.timely);
-      tallied = kept_tally rule other tally next more idle other.requests k.replies led.turns (due_rule rule tally led.turns other led.tallied is)
-          led.tallied pays k.says_full k.says_idle;
+      timely = (
+        due_is rule tally led.turns led.tallied ∙ ap (λ o. option_map (λ (r : UpkeepRule). asked r (waited_by tally)) o) is,
+        led.timely,
+      );
+      tallied = kept_tally rule other tally next last (asked other (waited_by tally)) k.replies led.turns (under_rule tally.rule other tally is) led.tallied pays
+          k.says;
     }
 
 -- each peer is as its turns led to it

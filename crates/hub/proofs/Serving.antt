@@ -1,10 +1,10 @@
 -- Requests that are cut from bytes and answered, one after another.
 use Rattle.std.proofs.Common.{◌≡◌, ℕ, ◌+◌, ◌-◌, ◌≤◌, ◌<◌, min, Bool, true, false, List, [], ◌∷◌, ◌++◌, length, take, drop, get_or, ◌⊎◌, map, refl, sym, ap}
 use Rattle.std.proofs.Common.{◌∙◌, subst, inl, inr, arith, append_assoc}
-use Rattle.std.specs.Prelude.{filter, bytes_eq, Option, Some, None}
+use Rattle.std.specs.Prelude.{◌≢◌, filter, bytes_eq, slice_get, option_map, IfSome, Option, Some, None}
 use denote.Ref.{Bor}
 use Rattle.std.proofs.Math.Seq.{take-suc}
-use Rattle.std.proofs.lemmas.List.{append-nil, map-append, length-append, length-map, take_all, get_or-map}
+use Rattle.std.proofs.lemmas.List.{append-nil, map-append, length-append, length-map, take_all, take-map, get_or-map}
 use Rattle.std.proofs.lemmas.List.Elements.{filter-append}
 use Rattle.std.proofs.lemmas.Bool.{false_from_ne_true}
 use Rattle.tardis_base.specs.Plain.{Event, PlainMachine, Answers, no_memory}
@@ -12,7 +12,9 @@ use Rattle.frame_cut.specs.Frames.{frame, frames, IsBody, Cuts}
 use Rattle.frame_cut.proofs.Joins.{frames-append, more_bodies}
 use Rattle.frame_cut.proofs.Words.{length-frame}
 use Rattle.tardis_base.specs.Sizes.{piece, longest_framed}
-use Rattle.hub.specs.Upkeeps.{UpkeepRule, TallyState, is_counted, counted_by, ends_with, noted}
+use Rattle.hub.specs.declared.upkeeps.LastReply.{LastReply}
+use Rattle.hub.specs.declared.upkeeps.Upkeep.{Upkeep}
+use Rattle.hub.specs.Upkeeps.{UpkeepRule, TallyState, is_counted, counted_by, ends_with, with_count, noted, rule_of, said, nothing_said, late_of, with_last}
 use Rattle.hub.specs.declared.ports.Seen.{Seen}
 use Rattle.hub.specs.Telling.{Tells, own_replies}
 use Rattle.hub.proofs.Tellings.{tells_none, replies_then}
@@ -41,7 +43,7 @@ pub noted_none : (tally : TallyState) → tally ≡ noted tally []
 noted_none tally =
     let none : counted_by tally.rule [] ≡ 0 = counted_none tally.rule in
     let all : tally.count ≡ tally.count + counted_by tally.rule [] = omega (arith, none) in
-    ap (λ n. record { rule = tally.rule; count = n; more = tally.more; idle = tally.idle; backlog = tally.backlog }) all
+    ap (λ n. with_count tally n) all
 
 abbrev pub serves_none : {S : Type 0} (m : PlainMachine S) (from : S → Type 0) (actor : ℕ) (held waiting : List ℕ) (tally : TallyState) →
     Serves m from from actor held held waiting waiting tally tally
@@ -72,7 +74,7 @@ pub noted_more : (tally mid next : TallyState) (xs ys : List (List ℕ)) → mid
 noted_more tally mid next xs ys p q =
     let sum : counted_by tally.rule (xs ++ ys) ≡ counted_by tally.rule xs + counted_by tally.rule ys = counted_append tally.rule xs ys in
     let all : (tally.count + counted_by tally.rule xs) + counted_by tally.rule ys ≡ tally.count + counted_by tally.rule (xs ++ ys) = omega (arith, sum) in
-    subst (λ t. next ≡ noted t ys) p q ∙ ap (λ n. record { rule = tally.rule; count = n; more = tally.more; idle = tally.idle; backlog = tally.backlog }) all
+    subst (λ t. next ≡ noted t ys) p q ∙ ap (λ n. with_count tally n) all
 
 -- requests were answered, and then one more
 answered_body : {S : Type 0} (m : PlainMachine S) (mid to : S → Type 0) (actor : ℕ) (p q r : List ℕ) (k l n : TallyState) (s : S) (bodies : List (List ℕ))
@@ -140,10 +142,10 @@ fed_all m from to actor held bytes fed rest p q k l n is count few size a =
     subst (λ b. Serves m from to actor b rest p q k l) (is ∙ ap (λ z. held ++ z) (take_all n bytes (omega (arith, count, few, size)))) a
 
 -- no request was asked yet, one more, and all
-pub asked_none : {S : Type 0} (m : PlainMachine S) (from : S → Type 0) (full idle : List ℕ) (a : Option (List Seen)) (s : S) → from s →
-    Asked m from [] full idle false false a a s
-asked_none m from full idle a s f =
-    record { replies = []; state = s; answers = refl; stands = f; says_full = refl; says_idle = refl; told = tells_none a }
+pub asked_none : {S : Type 0} (m : PlainMachine S) (from : S → Type 0) (rule : UpkeepRule) (last : LastReply) (a : Option (List Seen)) (s : S) →
+    last ≡ nothing_said → from s → Asked m from [] rule last a a s
+asked_none m from rule last a s none f =
+    record { replies = []; state = s; answers = refl; stands = f; says = none; told = tells_none a }
 
 -- the last reply is the last of more
 ends_later : (full reply : List ℕ) (replies more : List (List ℕ)) → ends_with full (replies ++ reply ∷ more) ≡ ends_with full (reply ∷ more)
@@ -151,16 +153,29 @@ ends_later full reply [] more = refl
 ends_later full reply (x ∷ []) more = refl
 ends_later full reply (x ∷ y ∷ replies) more = ends_later full reply (y ∷ replies) more
 
--- and one request has one reply
-says_last : {S : Type 0} (m : PlainMachine S) (s t : S) (event : Event) (full : List ℕ) (before replies : List (List ℕ)) (says : Bool) →
-    Answers m s (event ∷ []) replies t → says ≡ ends_with full replies → says ≡ ends_with full (before ++ replies)
-says_last m s t event full before [] says answers is = absurd answers
-says_last m s t event full before (reply ∷ more) says answers is = is ∙ sym (ends_later full reply before more)
+said_later : (rule : UpkeepRule) (reply : List ℕ) (replies more : List (List ℕ)) → said rule (reply ∷ more) ≡ said rule (replies ++ reply ∷ more)
+said_later rule reply replies more =
+    ap (λ b. record { is_full = b; is_idle = ends_with rule.idle (reply ∷ more); is_held = ends_with rule.held (reply ∷ more) })
+    (sym (ends_later rule.full reply replies more))
+    ∙ (ap (λ b. record { is_full = ends_with rule.full (replies ++ reply ∷ more); is_idle = b; is_held = ends_with rule.held (reply ∷ more) })
+    (sym (ends_later rule.idle reply replies more))
+    ∙ ap (λ b. record {
+      is_full = ends_with rule.full (replies ++ reply ∷ more);
+      is_idle = ends_with rule.idle (replies ++ reply ∷ more);
+      is_held = b;
+    })
+    (sym (ends_later rule.held reply replies more)))
 
-pub asked_more : {S : Type 0} (m : PlainMachine S) (mid to : S → Type 0) (bodies : List (List ℕ)) (body full idle : List ℕ)
-    (was_full was_idle is_full is_idle : Bool) (a b c : Option (List Seen)) (s : S) → Asked m mid bodies full idle was_full was_idle a b s →
-    ((t : S) → mid t → Asked m to (body ∷ []) full idle is_full is_idle b c t) → Asked m to (bodies ++ body ∷ []) full idle is_full is_idle a c s
-asked_more m mid to bodies body full idle was_full was_idle is_full is_idle a b c s first one =
+-- and one request has one reply
+says_last : {S : Type 0} (m : PlainMachine S) (s t : S) (event : Event) (rule : UpkeepRule) (before replies : List (List ℕ)) (last : LastReply) →
+    Answers m s (event ∷ []) replies t → last ≡ said rule replies → last ≡ said rule (before ++ replies)
+says_last m s t event rule before [] last answers is = absurd answers
+says_last m s t event rule before (reply ∷ more) last answers is = is ∙ said_later rule reply before more
+
+pub asked_more : {S : Type 0} (m : PlainMachine S) (mid to : S → Type 0) (bodies : List (List ℕ)) (body : List ℕ) (rule : UpkeepRule)
+    (was last : LastReply) (a b c : Option (List Seen)) (s : S) → Asked m mid bodies rule was a b s →
+    ((t : S) → mid t → Asked m to (body ∷ []) rule last b c t) → Asked m to (bodies ++ body ∷ []) rule last a c s
+asked_more m mid to bodies body rule was last a b c s first one =
     let next = one first.state first.stands in
     record {
       replies = first.replies ++ next.replies;
@@ -168,8 +183,7 @@ asked_more m mid to bodies body full idle was_full was_idle is_full is_idle a b 
       answers = subst (λ es. Answers m s es (first.replies ++ next.replies) next.state) (sym (map-append (λ z. (0, z)) bodies (body ∷ [])))
           (answers_append m s (asks 0 bodies) (asks 0 (body ∷ [])) first.replies next.replies first.state next.state first.answers next.answers);
       stands = next.stands;
-      says_full = says_last m first.state next.state (0, body) full first.replies next.replies is_full next.answers next.says_full;
-      says_idle = says_last m first.state next.state (0, body) idle first.replies next.replies is_idle next.answers next.says_idle;
+      says = says_last m first.state next.state (0, body) rule first.replies next.replies last next.answers next.says;
       told = replies_then a b c first.replies next.replies first.told next.told;
     }
 
@@ -188,30 +202,60 @@ all_of requests place past =
     let many : length (map (λ r. r.now) requests) ≡ length requests = length-map requests (λ (r : Bor (List ℕ)). r.now) in
     take_all place (map (λ r. r.now) requests) (omega (arith, past, many))
 
+-- all but the last request, and another one in its place
+pub asked_none_late : {S : Type 0} (m : PlainMachine S) (to : S → Type 0) (requests : List (List ℕ)) (late : Option (List ℕ)) (rule : UpkeepRule)
+    (last : LastReply) (a b : Option (List Seen)) (s : S) → None ≡ late → Asked m to requests rule last a b s → Asked m to (with_last requests late) rule last a b s
+asked_none_late m to requests late rule last a b s is answered = subst (λ o. Asked m to (with_last requests o) rule last a b s) is answered
+
+all_but_last : (requests : List (Bor (List ℕ))) (before : ℕ) → before ≡ length requests - 1 →
+    map (λ r. r.now) (take before requests) ≡ take (length (map (λ r. r.now) requests) - 1) (map (λ r. r.now) requests)
+all_but_last requests before is =
+    let many : length (map (λ r. r.now) requests) ≡ length requests = length-map requests (λ (r : Bor (List ℕ)). r.now) in
+    sym (take-map (λ (r : Bor (List ℕ)). r.now) before requests)
+    ∙ ap (λ n. take n (map (λ r. r.now) requests)) (is ∙ ap (λ n. n - 1) (sym many))
+
+pub asked_late : {S : Type 0} (m : PlainMachine S) (mid to : S → Type 0) (requests : List (Bor (List ℕ))) (before : ℕ) (body : List ℕ)
+    (late : Option (List ℕ)) (rule : UpkeepRule) (was last : LastReply) (a b c : Option (List Seen)) (s : S) → before ≡ length requests - 1 → Some body ≡ late →
+    Asked m mid (map (λ r. r.now) (take before requests)) rule was a b s → ((t : S) → mid t → Asked m to (body ∷ []) rule last b c t) →
+    Asked m to (with_last (map (λ r. r.now) requests) late) rule last a c s
+asked_late m mid to requests before body late rule was last a b c s front is first one =
+    subst (λ o. Asked m to (with_last (map (λ r. r.now) requests) o) rule last a c s) is
+    (subst (λ bodies. Asked m to (bodies ++ body ∷ []) rule last a c s) (all_but_last requests before front)
+    (asked_more m mid to (map (λ r. r.now) (take before requests)) body rule was last a b c s first one))
+
 -- one request was answered, or memory was wanting
-pub asked_ok : {S : Type 0} (m : PlainMachine S) (to : S → Type 0) (body full idle : List ℕ) (is_full is_idle : Bool) (a b : Option (List Seen)) (s : S) →
-    to (m.step s (0, body)) → is_full ≡ bytes_eq (m.reply s (0, body)) full → is_idle ≡ bytes_eq (m.reply s (0, body)) idle →
-    Tells a b (own_replies (m.reply s (0, body) ∷ [])) → Asked m to (body ∷ []) full idle is_full is_idle a b s
-asked_ok m to body full idle is_full is_idle a b s stepped says_full says_idle tells = record {
+pub asked_ok : {S : Type 0} (m : PlainMachine S) (to : S → Type 0) (body : List ℕ) (rule : UpkeepRule) (last : LastReply) (a b : Option (List Seen)) (s : S) →
+    to (m.step s (0, body)) → last ≡ said rule (m.reply s (0, body) ∷ []) → Tells a b (own_replies (m.reply s (0, body) ∷ [])) →
+    Asked m to (body ∷ []) rule last a b s
+asked_ok m to body rule last a b s stepped says tells = record {
   replies = m.reply s (0, body) ∷ [];
   state = m.step s (0, body);
   answers = inl (refl, refl);
   stands = stepped;
-  says_full = says_full;
-  says_idle = says_idle;
+  says = says;
   told = tells;
 }
 
-pub asked_err : {S : Type 0} (m : PlainMachine S) (to : S → Type 0) (body full idle : List ℕ) (is_full is_idle : Bool) (a b : Option (List Seen)) (s : S) →
-    (m.is_sure (0, body) ≡ true → false ≡ true) → to s → is_full ≡ bytes_eq no_memory full → is_idle ≡ bytes_eq no_memory idle →
-    Tells a b (own_replies (no_memory ∷ [])) → Asked m to (body ∷ []) full idle is_full is_idle a b s
-asked_err m to body full idle is_full is_idle a b s unsure same says_full says_idle tells = record {
+pub asked_err : {S : Type 0} (m : PlainMachine S) (to : S → Type 0) (body : List ℕ) (rule : UpkeepRule) (last : LastReply) (a b : Option (List Seen)) (s : S) →
+    (m.is_sure (0, body) ≡ true → false ≡ true) → to s → last ≡ said rule (no_memory ∷ []) → Tells a b (own_replies (no_memory ∷ [])) →
+    Asked m to (body ∷ []) rule last a b s
+asked_err m to body rule last a b s unsure same says tells = record {
   replies = no_memory ∷ [];
   state = s;
   answers =
       inr (refl, false_from_ne_true (m.is_sure (0, body)) (λ e. let p : false ≡ true = unsure e in absurd (cc)), refl);
   stands = same;
-  says_full = says_full;
-  says_idle = says_idle;
+  says = says;
   told = tells;
 }
+
+-- the late request after so many waits stands one place before
+pub late_at : (rule : UpkeepRule) (waited : ℕ) → waited ≢ 0 → slice_get rule.late (waited - 1) ≡ late_of rule waited
+late_at rule ℕ.zero some = absurd (some refl)
+late_at rule (ℕ.suc k) some = let less : ℕ.suc k - 1 ≡ k = omega arith in ap (λ n. slice_get rule.late n) less
+
+-- and it waits
+pub waits_of : (upkeep : Option Upkeep) → IfSome (option_map rule_of upkeep) (λ rule. (0 < rule.after) × (0 < rule.later) × (0 < rule.wait)) →
+    IfSome upkeep (λ u. 0 < u.wait)
+waits_of None p = tt
+waits_of (Some u) p = p.2

@@ -21,7 +21,7 @@ use Rattle.hub.specs.Talks.{Talk, no_talk, waits}
 use Rattle.hub.specs.Turns.{Turn, Rested, Opened, Missed, TurnedAway, Received, Sent, Ended, Settled, talk, more_of, MayRest, IsShut, HasNothing, HasSome}
 use Rattle.hub.specs.Turns.{WaitFew, WaitSoMany}
 use Rattle.hub.specs.Runs.{close, Ran, AnswersTo}
-use Rattle.hub.specs.Keeping.{Fits, Keeps, Settles, AreBefore, WentOn, IsToldBehind, GoesOn, Waits}
+use Rattle.hub.specs.Keeping.{Fits, Keeps, Settles, AreBefore, WentOn, IsNoted, IsToldBehind, GoesOn, Waits}
 use Rattle.hub.proofs.Tellings.{tells_none}
 use Rattle.hub.proofs.Holding.{waits_is, held_is, each_talk, none_of, fresh_connection, connection_more, fits_there}
 
@@ -37,7 +37,7 @@ received_at : {S : Type 0} (w : PlainSettling S) (from to : S → Type 0) (old n
     → talk slot turns ≡ o → Fits o (Some l) → connection_at new slot ≡ Some k → OthersStay slot old new → k.door ≡ l.door → length l.waiting ≤ piece
     → room ≡ piece → Serves (w.through l.door) from to (slot + 1) (l.cutter ++ came) k.cutter l.waiting k.waiting tally next → IsStopped k.long k.cutter k.waiting →
     Tells before after (ReadFrom slot room came ∷ []) → length new ≡ length old
-    → Keeps w scope from s old peers turns → WentOn w scope to s new peers turns tally next (IsToldBehind (Read slot) before after)
+    → Keeps w scope from s old peers turns → WentOn w scope to s new peers turns (IsNoted tally next) (IsToldBehind (Read slot) before after)
 received_at w from to old new slot room came l k tally next before after scope peers s turns None e f is others same few much serves stopped tells many keeps = absurd f
 received_at w from to old new slot room came l k tally next before after scope peers s turns (Some t) e f is others same few much serves stopped tells many keeps =
     let a = serves.answered keeps.state keeps.stands in
@@ -128,7 +128,7 @@ sent_at : {S : Type 0} (w : PlainSettling S) (mid to : S → Type 0) (old new : 
     → talk slot settling.earlier ≡ o → Fits o (Some l) → connection_at new slot ≡ Some k → OthersStay slot old new → k.door ≡ l.door
     → offered ≡ length l.waiting → Serves (w.through l.door) mid to (slot + 1) l.cutter k.cutter (drop count l.waiting) k.waiting tally next →
     (IsStopped l.long l.cutter l.waiting → IsStopped k.long k.cutter k.waiting) → Tells before after (WroteTo slot offered (take count l.waiting) ∷ []) → length new ≡ length old
-    → WentOn w scope to s new peers before_it tally next (IsToldBehind (Write slot) before after)
+    → WentOn w scope to s new peers before_it (IsNoted tally next) (IsToldBehind (Write slot) before after)
 sent_at w mid to old new slot offered count l k tally next before after scope peers s before_it None settling e f is others same all serves stopped tells many = absurd f
 sent_at w mid to old new slot offered count l k tally next before after scope peers s before_it (Some t) settling e f is others same all serves stopped tells many =
     let wrote : List ℕ = take count l.waiting in

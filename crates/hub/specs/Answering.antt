@@ -1,10 +1,11 @@
 -- Requests of one connection, and their replies behind what waits to be written to it.
-use Rattle.std.specs.Prelude.{◌≡◌, ℕ, Bool, List, [], ◌∷◌, ◌++◌, map, Option}
+use Rattle.std.specs.Prelude.{◌≡◌, ℕ, List, [], ◌∷◌, ◌++◌, map, Option}
 use Rattle.tardis_base.specs.Plain.{Event, PlainMachine, Answers}
 use Rattle.frame_cut.specs.Frames.{frame, frames, Cuts}
 use Rattle.hub.specs.declared.ports.Seen.{Seen}
 use Rattle.hub.specs.Telling.{Tells, own_replies}
-use Rattle.hub.specs.Upkeeps.{TallyState, noted, ends_with}
+use Rattle.hub.specs.declared.upkeeps.LastReply.{LastReply}
+use Rattle.hub.specs.Upkeeps.{UpkeepRule, TallyState, noted, said}
 
 -- the bodies, each as a request of the actor
 abbrev pub asks : ℕ → List (List ℕ) → List Event
@@ -37,14 +38,13 @@ pub record Serves {S : Type 0} (m : PlainMachine S) (from to : S → Type 0) (ac
   pub read : Cuts held bodies rest
   pub answered : (s : S) → from s → Answered m to actor before after tally next bodies s
 
--- From s replies answer these requests of actor 0, the value stands for the last state, it is said whether `full` is the last reply, and
--- whether `idle` is, and the edge is told of each.
-pub record Asked {S : Type 0} (m : PlainMachine S) (to : S → Type 0) (bodies : List (List ℕ)) (full idle : List ℕ) (is_full is_idle : Bool)
+-- From s replies answer these requests of actor 0, the value stands for the last state, what the last reply says by the rule is told, and
+-- the edge is told of each.
+pub record Asked {S : Type 0} (m : PlainMachine S) (to : S → Type 0) (bodies : List (List ℕ)) (rule : UpkeepRule) (last : LastReply)
     (before after : Option (List Seen)) (s : S) : Type 0 where
   pub replies : List (List ℕ)
   pub state : S
   pub answers : Answers m s (asks 0 bodies) replies state
   pub stands : to state
-  pub says_full : is_full ≡ ends_with full replies
-  pub says_idle : is_idle ≡ ends_with idle replies
+  pub says : last ≡ said rule replies
   pub told : Tells before after (own_replies replies)

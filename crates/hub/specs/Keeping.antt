@@ -17,7 +17,7 @@ use Rattle.hub.specs.Telling.{Tells}
 use Rattle.hub.specs.Talks.{Talk}
 use Rattle.hub.specs.Upkeeps.{UpkeepRule, TallyState, noted}
 use Rattle.hub.specs.Turns.{Turn, Received, Sent, KeptUp, Settled, PeerDid, talk, turns_of, calls_of, calls_in}
-use Rattle.hub.specs.Timing.{unpaid, has_more, has_idle, has_backlog, AreTimely}
+use Rattle.hub.specs.Timing.{heard, tally_of, AreTimely}
 use Rattle.hub.specs.Runs.{Ran, AreServed, count_of}
 
 -- the connection of a talk has its door, and holds what came and wasn't asked yet, and what waits
@@ -54,17 +54,9 @@ IsNoted tally next (KeptUp bodies replies) = ⊥
 IsNoted tally next Settled = ⊥
 IsNoted tally next _ = next ≡ tally
 
--- the tally after these turns
-abbrev pub IsTally : Option UpkeepRule → TallyState → List Turn → Type 0
-IsTally None tally turns = tally.rule ≡ None
-IsTally (Some rule) tally turns =
-    tally ≡ record {
-      rule = Some rule;
-      count = unpaid rule turns;
-      more = has_more rule.full turns;
-      idle = has_idle rule.idle turns;
-      backlog = has_backlog rule.full turns;
-    }
+-- and before that it told the time
+abbrev pub IsHeard : TallyState → TallyState → Turn → Type 0
+IsHeard tally next turn = IsNoted (heard tally turn) next turn
 
 -- from s nothing was owed, or what was owed was settled; and the value stands for the state that was reached
 pub record Settles {S : Type 0} (w : PlainSettling S) (to : S → Type 0) (s : S) : Type 0 where
@@ -79,12 +71,12 @@ AreBefore turns earlier = (earlier ≡ turns) ⊎ (earlier ≡ Settled ∷ turns
 
 -- the run went on by one turn, of which this was told
 pub record WentOn {S : Type 0} (w : PlainSettling S) (scope : Scope) (to : S → Type 0) (s : S) (connections : List (Option ConnectionState)) (peers : List Peer)
-    (turns : List Turn) (tally next : TallyState) (Told : Turn → Type 0) : Type 0 where
+    (turns : List Turn) (Counted Told : Turn → Type 0) : Type 0 where
   pub earlier : List Turn
   pub behind : AreBefore turns earlier
   pub turn : Turn
   pub keeps : Keeps w scope to s connections peers (turn ∷ earlier)
-  pub noted : IsNoted tally next turn
+  pub noted : Counted turn
   pub told : Told turn
 
 -- the turn began with this offer, and the rest of its calls was told
@@ -98,19 +90,19 @@ IsTold before after turn = Tells before after (calls_of turn)
 abbrev pub GoesOn : {S : Type 0} → PlainSettling S → (from to : S → Type 0) → (old new : List (Option ConnectionState)) → Ready → (tally next : TallyState)
     → (before after : Option (List Seen)) → Type 0
 GoesOn w from to old new offer tally next before after = (scope : Scope) (peers : List Peer) (s : _) (turns : List Turn) → Keeps w scope from s old peers turns
-    → WentOn w scope to s new peers turns tally next (IsToldBehind offer before after)
+    → WentOn w scope to s new peers turns (IsNoted tally next) (IsToldBehind offer before after)
 
 -- whatever run led here, it goes on by one turn of the peers, once the offer was made
 abbrev pub FetchesOn : {S : Type 0} → PlainSettling S → (from to : S → Type 0) → (old new : List Peer) → Ready → (tally next : TallyState)
     → (before after : Option (List Seen)) → Type 0
 FetchesOn w from to old new offer tally next before after = (scope : Scope) (connections : List (Option ConnectionState)) (s : _) (turns : List Turn)
-    → Keeps w scope from s connections old turns → WentOn w scope to s connections new turns tally next (IsToldBehind offer before after)
+    → Keeps w scope from s connections old turns → WentOn w scope to s connections new turns (IsNoted tally next) (IsToldBehind offer before after)
 
 -- whatever run led here, it went on by one turn
 abbrev pub Turned : {S : Type 0} → PlainSettling S → (from to : S → Type 0) → (old new : List (Option ConnectionState)) → (old_peers new_peers : List Peer)
     → (tally next : TallyState) → (before after : Option (List Seen)) → Type 0
 Turned w from to old new old_peers new_peers tally next before after = (scope : Scope) (s : _) (turns : List Turn) → Keeps w scope from s old old_peers turns
-    → WentOn w scope to s new new_peers turns tally next (IsTold before after)
+    → WentOn w scope to s new new_peers turns (IsHeard tally next) (IsTold before after)
 
 -- one peer is as said, and the others are as before
 pub record IsOnly (n : ℕ) (p q : Peer) (old new : List Peer) : Type 0 where
@@ -158,4 +150,4 @@ pub record Led {S : Type 0} (w : PlainSettling S) (rule : Option UpkeepRule) (sc
   pub seen : Tells before after (calls_in turns)
   pub many : count_of turns ≡ count
   pub timely : AreTimely rule turns
-  pub tallied : IsTally rule tally turns
+  pub tallied : tally ≡ tally_of rule turns

@@ -1,50 +1,47 @@
--- When upkeep comes in a run.
-use Rattle.std.specs.Prelude.{◌≡◌, ℕ, ◌+◌, ◌-◌, ◌||◌, Bool, false, List, [], ◌∷◌, Option, Some, None, nat_le, if◌then◌else◌}
-use Rattle.hub.specs.Upkeeps.{UpkeepRule, counted, ends_with, wanted}
-use Rattle.hub.specs.Turns.{Turn, Received, Sent, KeptUp, Settled, PeerDid}
+-- When upkeep comes in a run, and what is asked.
+use Rattle.std.specs.Prelude.{◌≡◌, ℕ, List, [], ◌∷◌, Option, Some, None, option_map}
+use Rattle.hub.specs.declared.ports.Ready.{Ready}
+use Rattle.hub.specs.declared.ports.Ready.TheVariants.{Peer as OfPeer}
+use Rattle.hub.specs.declared.upkeeps.LastReply.{LastReply}
+use Rattle.hub.specs.Upkeeps.{UpkeepRule, TallyState, first_tally, noted, timed, passed, paid, said, nothing_said, due_by, waited_by, asked}
+use Rattle.hub.specs.Turns.{Turn, Rested, Received, Sent, KeptUp, Settled, PeerDid}
 
--- How many replies that count were given to connections, or for peers, and aren't paid off: an upkeep pays off `pays` of them, or all where
--- they are fewer.
-abbrev pub unpaid_after : UpkeepRule → Turn → ℕ → ℕ
-unpaid_after rule (Received slot room came bodies replies) old = old + counted rule.codes replies
-unpaid_after rule (Sent slot offered wrote bodies replies) old = old + counted rule.codes replies
-unpaid_after rule (PeerDid peer offered t) old = old + counted rule.codes t.replies
-unpaid_after rule (KeptUp bodies replies) old = old - rule.pays
-unpaid_after rule _ old = old
+-- an offer of a peer tells the time
+abbrev pub told_time : TallyState → Ready → TallyState
+told_time tally (OfPeer peer now news) = timed tally now
+told_time tally _ = tally
 
-abbrev pub unpaid : UpkeepRule → List Turn → ℕ
-unpaid rule [] = 0
-unpaid rule (turn ∷ older) = unpaid_after rule turn (unpaid rule older)
+abbrev pub heard : TallyState → Turn → TallyState
+heard tally (Rested offer) = told_time tally offer
+heard tally (PeerDid peer offered t) = timed tally t.now
+heard tally _ = tally
 
--- whether this is the last reply of the newest upkeep
-abbrev pub said_last_after : List ℕ → Turn → Bool → Bool
-said_last_after reply (KeptUp bodies replies) old = ends_with reply replies
-said_last_after reply _ old = old
+abbrev pub said_by : Option UpkeepRule → List (List ℕ) → LastReply
+said_by None replies = nothing_said
+said_by (Some rule) replies = said rule replies
 
-abbrev pub said_last : List ℕ → List Turn → Bool
-said_last reply [] = false
-said_last reply (turn ∷ older) = said_last_after reply turn (said_last reply older)
+-- What a turn makes of the tally: the edge tells the time, replies to connections and for peers are counted, and the turn has passed; or an
+-- upkeep is paid off, by what its last reply says.
+abbrev pub tally_after : TallyState → Turn → TallyState
+tally_after tally (Received slot room came bodies replies) = passed (noted tally replies)
+tally_after tally (Sent slot offered wrote bodies replies) = passed (noted tally replies)
+tally_after tally (PeerDid peer offered t) = passed (noted (timed tally t.now) t.replies)
+tally_after tally (Rested offer) = passed (told_time tally offer)
+tally_after tally (KeptUp bodies replies) = paid tally (said_by tally.rule replies)
+tally_after tally Settled = tally
+tally_after tally _ = passed tally
 
--- whether the newest upkeep says that there may be more to do: `full` is its last reply
-abbrev pub has_more : List ℕ → List Turn → Bool
-has_more full turns = said_last full turns
+abbrev pub tally_of : Option UpkeepRule → List Turn → TallyState
+tally_of rule [] = first_tally rule
+tally_of rule (turn ∷ older) = tally_after (tally_of rule older) turn
 
--- whether the newest upkeep says that nothing could be done: `idle` is its last reply
-abbrev pub has_idle : List ℕ → List Turn → Bool
-has_idle idle turns = said_last idle turns
+-- the requests that are due by a tally
+abbrev pub requests_by : TallyState → Option (List (List ℕ))
+requests_by tally = option_map (λ rule. asked rule (waited_by tally)) (due_by tally)
 
--- a backlog: the newest upkeep says that there may be more to do, and the edge had a turn since
-abbrev pub has_backlog : List ℕ → List Turn → Bool
-has_backlog full [] = false
-has_backlog full (KeptUp bodies replies ∷ older) = false
-has_backlog full (Settled ∷ older) = has_backlog full older
-has_backlog full (turn ∷ older) = has_more full older
-
--- The requests that are due after these turns: where `after` replies aren't paid off, or `later` if the newest upkeep could do nothing; or
--- where there is a backlog.
+-- the requests that are due after these turns
 abbrev pub due : Option UpkeepRule → List Turn → Option (List (List ℕ))
-due None older = None
-due (Some rule) older = if nat_le (wanted rule (has_idle rule.idle older)) (unpaid rule older) || has_backlog rule.full older then Some rule.requests else None
+due rule older = requests_by (tally_of rule older)
 
 -- Where requests are due the turn asks these, and where none are it is one of the edge.
 abbrev pub IsTimely : Option UpkeepRule → List Turn → Turn → Type 0

@@ -59,7 +59,7 @@ pub fn serve<M: Settling, P: Ports>(
     upkeep: Option<Upkeep<'_>>,
     scope: Scope,
 ) -> Result<End, NoMemory>
-    requires often { IfSome (option_map rule_of upkeep) (λ rule. (0 < rule.after) × (0 < rule.later)) }
+    requires often { IfSome (option_map rule_of upkeep) (λ rule. (0 < rule.after) × (0 < rule.later) × (0 < rule.wait)) }
     requires most { scope.connections ≤ slots }
     requires sure { (n : ℕ) → n < slots → M.plain.is_sure (n + 1, close) ≡ true }
     ensures served { IfOk result (λ end. (s : M.Plain) → M.stands machine.old s
@@ -99,6 +99,7 @@ fn serve_connections<M: Settling, P: Ports>(
     buf: &mut [u8],
     reply: &mut ReplyBuf,
 ) -> End
+    requires often { IfSome (option_map rule_of upkeep) (λ rule. (0 < rule.after) × (0 < rule.later) × (0 < rule.wait)) }
     requires slots { length connections.old ≡ scope.connections }
     requires most { scope.connections ≤ slots }
     requires free { (n : ℕ) → connection_at connections.old n ≡ None }
@@ -117,8 +118,8 @@ fn serve_connections<M: Settling, P: Ports>(
         turns += 1;
         match tally.due() {
             Some(upkeep) => {
-                let last = keep_up(machine, upkeep, ports, reply);
-                tally.pay(upkeep.pays, last);
+                let last = keep_up(machine, upkeep, tally.waited(), ports, reply);
+                tally.pay(last);
             }
             None => match turn(
                 alloc,

@@ -220,6 +220,7 @@ pub(crate) fn turn<M: Settling, P: Ports>(
             Outcome::On
         }
         Ready::Peer { peer, now, news } => {
+            tally.tell_time(now);
             if fetch(
                 alloc, machine, peers, ports, peer, now, news, buf, reply, tally,
             ) {

@@ -5,7 +5,7 @@ ghost use Rattle.std.proofs.Common.{inl};
 ghost use Rattle.site_tests.specs.Owing.{first_byte};
 
 use crate::talks::{copied, put_frame};
-use hub::{End, MemoryPorts, Move, Scope, Seen, Upkeep, serve};
+use hub::{End, MemoryPorts, Move, PeerNews, Scope, Seen, Upkeep, serve};
 use rest_machine::{InMemory, Settling};
 use std::alloc::Global;
 use std::process::Abort;
@@ -243,12 +243,13 @@ fn what_a_door_doesnt_let_in_is_answered_there(rt: HostRuntime) {
     drop(ports);
 }
 
-/// So many slices are left of an upkeep, which goes in slices, and so many upkeeps were made. It replies to each connection the
-/// first byte of what that asked.
+/// So many slices are left of an upkeep, which goes in slices, so many upkeeps were made, and the second bytes of what they asked
+/// are these digits. It replies to each connection the first byte of what that asked.
 #[derive(Drop)]
 struct Slicing {
     left: u8,
     made: u16,
+    asked: u64,
 }
 
 impl Machine for Slicing {
@@ -269,6 +270,9 @@ impl Machine for Slicing {
             return Ok(());
         }
         self.made = self.made.saturating_add(1);
+        if let [_, digit] = request {
+            self.asked = self.asked.saturating_mul(10).saturating_add(*digit as u64);
+        }
         if self.left == 0 {
             out.push_byte(0);
         } else {
@@ -314,9 +318,17 @@ fn upkeeps_of(rt: &impl Abort, alloc: Global, left: u8, reads: &[(u8, u16)]) -> 
         requests: &[&[15]],
         full: &[1],
         idle: &[],
+        held: &[],
         later: 64,
+        soon: u64::MAX,
+        late: &[],
+        wait: 1,
     };
-    let machine = Slicing { left, made: 0 };
+    let machine = Slicing {
+        left,
+        made: 0,
+        asked: 0,
+    };
     let mut machine = InMemory { machine };
     let mut ports = reads_of(rt, alloc, reads);
     let end = serve(alloc, &mut machine, &mut ports, Some(upkeep), SCOPE).expect(rt, "memory");
@@ -346,5 +358,96 @@ fn upkeep_is_made_as_often_as_it_is_due(rt: HostRuntime) {
     ];
     for (left, reads, upkeeps) in rows {
         assert!(rt; upkeeps_of(&rt, rt.alloc(), left, reads) == upkeeps);
+    }
+}
+
+/// What an edge does: requests come, as many, which are replied with 8; or it tells this time.
+#[derive(Clone, Copy)]
+enum Step {
+    Eights(u16),
+    Time(u64),
+}
+
+/// A connection comes, and then these.
+fn steps_of(rt: &impl Abort, alloc: Global, steps: &[Step]) -> MemoryPorts {
+    let mut moves = Vec::new(alloc);
+    moves
+        .push(Move::Accept { comes: Some(0) })
+        .expect(rt, "room");
+    for step in steps {
+        let next = match step {
+            Step::Eights(count) => eights(rt, alloc, *count),
+            Step::Time(now) => Move::Peer {
+                peer: 0,
+                now: *now,
+                news: PeerNews::Time,
+            },
+        };
+        moves.push(next).expect(rt, "room");
+    }
+    MemoryPorts::new(alloc, moves)
+}
+
+fn eights(rt: &impl Abort, alloc: Global, count: u16) -> Move {
+    let mut bytes = Vec::new(alloc);
+    for _ in 0..count {
+        put_frame(rt, &mut bytes, &[8], b"");
+    }
+    Move::Read {
+        slot: 0,
+        bytes: ByteList::from_vec(bytes),
+    }
+}
+
+/// What upkeeps ask behind these steps: 1, or 2 and 3 once it has waited. It is held so many times.
+fn asked_of(rt: &impl Abort, alloc: Global, left: u8, steps: &[Step]) -> u64 {
+    let upkeep = Upkeep {
+        codes: &[8],
+        after: 2,
+        pays: 2,
+        requests: &[&[15, 1]],
+        full: &[],
+        idle: &[],
+        held: &[1],
+        later: 4,
+        soon: 50,
+        late: &[&[15, 2], &[15, 3]],
+        wait: 10,
+    };
+    let machine = Slicing {
+        left,
+        made: 0,
+        asked: 0,
+    };
+    let mut machine = InMemory { machine };
+    let mut ports = steps_of(rt, alloc, steps);
+    let end = serve(alloc, &mut machine, &mut ports, Some(upkeep), SCOPE).expect(rt, "memory");
+    assert!(rt; end == End::Stopped);
+    drop(ports);
+    machine.machine.asked
+}
+
+#[test]
+fn what_is_held_is_taken_over_once_it_has_waited(rt: HostRuntime) {
+    use Step::{Eights, Time};
+    let rows: [(u8, &[Step], u64); 11] = [
+        (9, &[Eights(2)], 1),
+        // a wait later another is asked, and one more a wait after that; the last one stays
+        (9, &[Eights(2), Time(9)], 1),
+        (9, &[Eights(2), Time(9), Time(10), Time(19)], 12),
+        (9, &[Eights(2), Time(10), Time(20), Time(45)], 123),
+        (9, &[Eights(2), Time(45)], 13),
+        // the wait begins where it is held first, and an earlier time changes nothing
+        (9, &[Time(100), Eights(2), Time(50), Time(109)], 1),
+        (9, &[Time(100), Eights(2), Time(50), Time(110)], 12),
+        // it ends with another reply, and then as many replies as ever are enough
+        (1, &[Eights(2), Time(10), Time(20), Eights(2)], 121),
+        // while it lasts more of them are wanted, or more time
+        (9, &[Eights(2), Eights(3), Eights(1)], 11),
+        (9, &[Eights(2), Time(45), Eights(2), Time(94)], 13),
+        (9, &[Eights(2), Time(45), Eights(2), Time(95)], 133),
+    ];
+    for (left, steps, asked) in rows {
+        assert!(rt; asked_of(&rt, rt.alloc(), left, steps) == asked);
     }
 }

@@ -203,7 +203,11 @@ fn came_of(rt: &impl Abort, alloc: Global, letters: &[u8], settles: u8) -> (End,
         requests: &[&[15, 0], &[15, 1]],
         full: &[1],
         idle: &[],
+        held: &[],
         later: 3,
+        soon: u64::MAX,
+        late: &[],
+        wait: 1,
     };
     let scope = Scope {
         connections: 256,

@@ -3,7 +3,8 @@ use Rattle.std.specs.Option.{option_map}
 use Rattle.hub.specs.declared.serves.End.TheVariants.{Stopped}
 use Rattle.hub.specs.Settlings.{behind_doors}
 use Rattle.hub.specs.Runs.{IsRun}
-use Rattle.hub.specs.Upkeeps.{due_by, rule_of}
+use Rattle.hub.specs.Answering.{Asked}
+use Rattle.hub.specs.Upkeeps.{asked, due_by, rule_of}
 use Rattle.hub.proofs.Leading.{led_start, led_more, led_kept, run_stopped, run_unsettled, run_spent}
 use Rattle.hub.proofs.serves.serve_connections.Goals as goal
 
@@ -20,9 +21,11 @@ pub loop-turns-preserved-in-Some : goal.loop-turns-preserved-in-Some
 loop-turns-preserved-in-Some g c = record {
   led = λ s stands. led_kept (behind_doors g.M.Settling.plain g.M.Settling.through g.M.Settling.is_settled g.M.Settling.settled) (option_map rule_of c.args.upkeep) c.args.scope (g.M.Settling.stands c.loop-turns.machine)
       (g.M.Settling.stands c.keep_up-last.new.machine) s c.loop-turns.connections c.loop-turns.peers c.loop-turns.tally c.pay.new.self
-      (g.P.Ports.seen c.args.ports.now) (g.P.Ports.seen c.loop-turns.ports) (g.P.Ports.seen c.keep_up-last.new.ports) c.loop-turns.turns (rule_of c.in-Some.upkeep) c.keep_up-last.result.is_full
-      c.keep_up-last.result.is_idle
-      (c.loop-turns.invariant.led s stands) (sym c.in-Some.ensures.due) c.pay.ensures c.keep_up-last.ensures.asked;
+      (g.P.Ports.seen c.args.ports.now) (g.P.Ports.seen c.loop-turns.ports) (g.P.Ports.seen c.keep_up-last.new.ports) c.loop-turns.turns (rule_of c.in-Some.upkeep) c.keep_up-last.result
+      (c.loop-turns.invariant.led s stands) (sym c.in-Some.ensures.due) c.pay.ensures
+      (subst (λ n. (u : g.M.Settling.Plain) → g.M.Settling.stands c.loop-turns.machine u → Asked g.M.Settling.plain (g.M.Settling.stands c.keep_up-last.new.machine)
+      (asked (rule_of c.in-Some.upkeep) n) (rule_of c.in-Some.upkeep) c.keep_up-last.result (g.P.Ports.seen c.loop-turns.ports) (g.P.Ports.seen c.keep_up-last.new.ports) u)
+      c.waited.ensures c.keep_up-last.ensures.asked);
   slots = c.loop-turns.invariant.slots;
   room = c.loop-turns.invariant.room;
   opening = c.keep_up-last.ensures.opening ∙ c.loop-turns.invariant.opening;

@@ -3,6 +3,7 @@ use Rattle.std.proofs.Common.{[], ◌∷◌, subst, sym}
 use Rattle.hub.specs.Telling.{Tells}
 use Rattle.hub.specs.declared.ports.Ready.TheVariants.{Accept, Read, Write, Close, Peer as OfPeer}
 use Rattle.hub.specs.declared.ports.Seen.TheVariants.{Offered}
+use Rattle.hub.specs.Keeping.{FetchesOn}
 use Rattle.hub.proofs.Leading.{turned, fetched}
 use Rattle.hub.proofs.turns.turn.Goals as goal
 
@@ -51,7 +52,10 @@ returns-then-fetch-clause-turned g c = λ on.
     fetched (behind_doors g.M.Settling.plain g.M.Settling.through g.M.Settling.is_settled g.M.Settling.settled) (g.M.Settling.stands c.args.machine.now) (g.M.Settling.stands c.fetch.new.machine) c.args.connections.now c.args.peers.now c.fetch.new.peers
     (OfPeer c.in-Peer.peer c.in-Peer.now c.in-Peer.news) c.args.tally.now c.fetch.new.tally (g.P.Ports.seen c.args.ports.now) (g.P.Ports.seen c.ready.new.self)
     (g.P.Ports.seen c.fetch.new.ports)
-    c.in-Peer.ensures.told (c.fetch.ensures.turned c.if-fetch.true)
+    c.in-Peer.ensures.told
+    (subst (λ t. FetchesOn (behind_doors g.M.Settling.plain g.M.Settling.through g.M.Settling.is_settled g.M.Settling.settled) (g.M.Settling.stands c.args.machine.now) (g.M.Settling.stands c.fetch.new.machine) c.args.peers.now c.fetch.new.peers
+    (OfPeer c.in-Peer.peer c.in-Peer.now c.in-Peer.news) t c.fetch.new.tally (g.P.Ports.seen c.ready.new.self) (g.P.Ports.seen c.fetch.new.ports))
+    c.tell_time.ensures (c.fetch.ensures.turned c.if-fetch.true))
 
 pub returns-else-fetch-clause-unsettled : goal.returns-else-fetch-clause-unsettled
 returns-else-fetch-clause-unsettled g c = λ is.

@@ -1,32 +1,16 @@
-use Rattle.std.proofs.Common.{◌∙◌, [], map, take, get_or, refl, subst, sym}
-use Rattle.hub.specs.Answering.{Asked}
-use Rattle.hub.proofs.Serving.{asked_none, asked_more, one_more, all_of}
+use Rattle.std.proofs.Common.{map}
+use Rattle.hub.specs.Upkeeps.{rule_of, late_of}
+use Rattle.hub.proofs.Serving.{asked_none_late, asked_late}
 use Rattle.hub.proofs.upkeeps.keep_up.Goals as goal
 
-pub loop-request-init : goal.loop-request-init
-loop-request-init g c = record { asked = λ s f. asked_none g.M.Settling.plain (g.M.Settling.stands c.args.machine.now) c.args.upkeep.full.now c.args.upkeep.idle.now (g.P.Ports.seen c.args.ports.now) s f; opening = refl }
+pub returns-in-None-clause-asked : goal.returns-in-None-clause-asked
+returns-in-None-clause-asked g c = λ s f. asked_none_late g.M.Settling.plain (g.M.Settling.stands c.ask_each.new.machine) (map (λ r. r.now) c.args.upkeep.requests.now)
+    (late_of (rule_of c.args.upkeep) c.args.waited) (rule_of c.args.upkeep) c.ask_each.result (g.P.Ports.seen c.args.ports.now) (g.P.Ports.seen c.ask_each.new.ports) s
+    c.in-None.ensures (c.ask_each.ensures.asked s f)
 
-pub loop-request-preserved : goal.loop-request-preserved
-loop-request-preserved g c =
-    let requests = c.args.upkeep.requests.now in
-    let place = c.loop-request.request-index in
-    record {
-      asked = λ s f. subst (λ bodies. Asked g.M.Settling.plain (g.M.Settling.stands c.ask-last.new.machine) bodies c.args.upkeep.full.now c.args.upkeep.idle.now c.ask-last.result.is_full c.ask-last.result.is_idle
-          (g.P.Ports.seen c.args.ports.now) (g.P.Ports.seen c.ask-last.new.ports) s)
-          (sym (one_more requests place record { ref_ptr = (0, 0); now = [] } c.loop-request-test.true))
-          (asked_more g.M.Settling.plain (g.M.Settling.stands c.loop-request.machine) (g.M.Settling.stands c.ask-last.new.machine)
-          (take place (map (λ r. r.now) requests)) (get_or requests place record { ref_ptr = (0, 0); now = [] }).now c.args.upkeep.full.now
-          c.args.upkeep.idle.now c.loop-request.last.is_full c.loop-request.last.is_idle c.ask-last.result.is_full c.ask-last.result.is_idle
-          (g.P.Ports.seen c.args.ports.now) (g.P.Ports.seen c.loop-request.ports) (g.P.Ports.seen c.ask-last.new.ports) s
-          (c.loop-request.invariant.asked s f) c.ask-last.ensures.asked);
-      opening = c.ask-last.ensures.opening ∙ c.loop-request.invariant.opening;
-    }
-
-pub returns-clause-asked : goal.returns-clause-asked
-returns-clause-asked g c =
-    λ s f. subst (λ bodies. Asked g.M.Settling.plain (g.M.Settling.stands c.loop-request.machine) bodies c.args.upkeep.full.now c.args.upkeep.idle.now c.loop-request.last.is_full
-    c.loop-request.last.is_idle (g.P.Ports.seen c.args.ports.now) (g.P.Ports.seen c.loop-request.ports) s)
-    (all_of c.args.upkeep.requests.now c.loop-request.request-index c.loop-request-test.false) (c.loop-request.invariant.asked s f)
-
-pub returns-clause-opening : goal.returns-clause-opening
-returns-clause-opening g c = c.loop-request.invariant.opening
+pub returns-in-Some-clause-asked : goal.returns-in-Some-clause-asked
+returns-in-Some-clause-asked g c = λ s f. asked_late g.M.Settling.plain (g.M.Settling.stands c.ask_each-in-Some.new.machine) (g.M.Settling.stands c.ask.new.machine)
+    c.args.upkeep.requests.now c.saturating_sub-before.result c.in-Some.request.now
+    (late_of (rule_of c.args.upkeep) c.args.waited) (rule_of c.args.upkeep) c.ask_each-in-Some.result c.ask.result (g.P.Ports.seen c.args.ports.now)
+    (g.P.Ports.seen c.ask_each-in-Some.new.ports) (g.P.Ports.seen c.ask.new.ports) s
+    c.saturating_sub-before.ensures c.in-Some.ensures (c.ask_each-in-Some.ensures.asked s f) c.ask.ensures.asked
