@@ -1,6 +1,7 @@
 -- Runs behind doors.
 use Rattle.std.proofs.Common.{◌≡◌, ℕ, ◌+◌, Bool, true, false, List, [], ◌∷◌, ◌++◌, map, Option, Some, None, ◌⊎◌, ◌∙◌, refl, sym, ap, subst, inl, inr}
-use Rattle.std.specs.Prelude.{if◌then◌else◌}
+use Rattle.std.specs.Prelude.{◌||◌, if◌then◌else◌}
+use Rattle.std.proofs.lemmas.Bool.{or_parts}
 use Rattle.tardis_base.specs.Plain.{Event, PlainMachine, Answers, no_memory}
 use Rattle.hub.specs.Settlings.{PlainSettling, behind_doors}
 use Rattle.hub.specs.Answering.{asks}
@@ -8,8 +9,8 @@ use Rattle.hub.specs.Talks.{Talk}
 use Rattle.hub.specs.Turns.{Turn, Rested, Opened, Missed, TurnedAway, Received, Sent, Ended, KeptUp, Settled, PeerDid, talk}
 use Rattle.hub.specs.Runs.{close, Ran, Leads, AnswersTo}
 use Rattle.hub.specs.Doors.{DoorRules, seen_through}
-use Rattle.hub.specs.DoorLaws.{Entry, with_replies, door_of, entries_of, entries, is_let_in, let_in, IsReply, IsTrail, IsAnsweredAt}
-use Rattle.hub.specs.DoorLaws.{IsTrailBehindDoors, IsSeenBehind}
+use Rattle.hub.specs.DoorLaws.{Entry, Placed, with_replies, door_of, entries_of, entries, lets_in_by, is_let_in, let_in, IsReply, IsTrail, IsAnsweredAt}
+use Rattle.hub.specs.DoorLaws.{HasPlace, IsTrailBehindDoors, IsSeenBehind}
 use Rattle.hub.proofs.Serving.{answers_append}
 use Rattle.hub.proofs.Trails.{answers_shown}
 
@@ -20,19 +21,31 @@ StepsBy m rules false s e u = (u ≡ s) × IsAnsweredAt rules s e.door e.event e
 
 abbrev Goes : {S : Type 0} → PlainMachine S → DoorRules S → S → List Entry → S → Type 0
 Goes m rules s [] t = t ≡ s
-Goes m rules s (e ∷ es) t = (u : _) × (StepsBy m rules (is_let_in rules e) s e u × Goes m rules u es t)
+Goes m rules s (e ∷ es) t = (u : _) × (StepsBy m rules (lets_in_by rules e.door s e.event) s e u × Goes m rules u es t)
+
+-- several, each with the state before it
+abbrev Passes : {S : Type 0} → PlainMachine S → DoorRules S → S → List (Placed S) → S → Type 0
+Passes m rules s [] t = t ≡ s
+Passes m rules s (p ∷ ps) t = (p.state ≡ s) × ((u : _) × (StepsBy m rules (is_let_in rules p) p.state p.entry u × Passes m rules u ps t))
 
 goes_append : {S : Type 0} (m : PlainMachine S) (rules : DoorRules S) (s : S) (xs ys : List Entry) (u t : S) → Goes m rules s xs u → Goes m rules u ys t →
     Goes m rules s (xs ++ ys) t
 goes_append m rules s [] ys u t p q = subst (λ z. Goes m rules z ys t) p q
 goes_append m rules s (x ∷ xs) ys u t p q = (p.0, (p.1.0, goes_append m rules p.0 xs ys u t p.1.1 q))
 
-goes_split : {S : Type 0} (m : PlainMachine S) (rules : DoorRules S) (s : S) (xs ys : List Entry) (t : S) → Goes m rules s (xs ++ ys) t →
-    (u : S) × (Goes m rules s xs u × Goes m rules u ys t)
-goes_split m rules s [] ys t p = (s, (refl, p))
-goes_split m rules s (x ∷ xs) ys t p =
-    let r = goes_split m rules p.0 xs ys t p.1.1 in
-    (r.0, ((p.0, (p.1.0, r.1.0)), r.1.1))
+placed_by : {S : Type 0} (m : PlainMachine S) (rules : DoorRules S) (s : S) (es : List Entry) (t : S) → Goes m rules s es t →
+    (ps : List (Placed S)) × ((map (λ p. p.entry) ps ≡ es) × Passes m rules s ps t)
+placed_by m rules s [] t p = ([], (refl, p))
+placed_by m rules s (e ∷ es) t p =
+    let r = placed_by m rules p.0 es t p.1.1 in
+    (record { state = s; entry = e } ∷ r.0, (ap (λ z. e ∷ z) r.1.0, (refl, (p.0, (p.1.0, r.1.1)))))
+
+passes_split : {S : Type 0} (m : PlainMachine S) (rules : DoorRules S) (s : S) (xs ys : List (Placed S)) (t : S) → Passes m rules s (xs ++ ys) t →
+    (u : S) × (Passes m rules s xs u × Passes m rules u ys t)
+passes_split m rules s [] ys t p = (s, (refl, p))
+passes_split m rules s (x ∷ xs) ys t p =
+    let r = passes_split m rules p.1.0 xs ys t p.1.1.1 in
+    (r.0, ((p.0, (p.1.0, (p.1.1.0, r.1.0))), r.1.1))
 
 -- those that were let in are one trail
 trail_more : {S : Type 0} (m : PlainMachine S) (s u t : S) (e : Entry) (es : List Entry) (reply : List ℕ) → IsReply e.reply reply →
@@ -43,47 +56,53 @@ trail_more m s u t e es reply told answers rest = record {
   given = (told, rest.given);
 }
 
-trail_step : {S : Type 0} (m : PlainMachine S) (rules : DoorRules S) (s u t : S) (e : Entry) (es : List Entry) (b : Bool) → is_let_in rules e ≡ b →
-    StepsBy m rules b s e u → IsTrail m u (let_in rules es) t → IsTrail m s (let_in rules (e ∷ es)) t
-trail_step m rules s u t e es true is p rest =
-    subst (λ b. IsTrail m s (if b then e ∷ let_in rules es else let_in rules es) t) (sym is) (trail_more m s u t e (let_in rules es) p.0 p.1.0 p.1.1 rest)
-trail_step m rules s u t e es false is p rest =
-    subst (λ b. IsTrail m s (if b then e ∷ let_in rules es else let_in rules es) t) (sym is) (subst (λ z. IsTrail m z (let_in rules es) t) p.0 rest)
+trail_step : {S : Type 0} (m : PlainMachine S) (rules : DoorRules S) (s u t : S) (e : Entry) (es : List Entry) (b : Bool) → StepsBy m rules b s e u →
+    IsTrail m u es t → IsTrail m s (if b then e ∷ es else es) t
+trail_step m rules s u t e es true p rest = trail_more m s u t e es p.0 p.1.0 p.1.1 rest
+trail_step m rules s u t e es false p rest = subst (λ z. IsTrail m z es t) p.0 rest
 
-trail_of : {S : Type 0} (m : PlainMachine S) (rules : DoorRules S) (s : S) (es : List Entry) (t : S) → Goes m rules s es t → IsTrail m s (let_in rules es) t
+trail_of : {S : Type 0} (m : PlainMachine S) (rules : DoorRules S) (s : S) (ps : List (Placed S)) (t : S) → Passes m rules s ps t →
+    IsTrail m s (let_in rules ps) t
 trail_of m rules s [] t p = record { replies = []; answers = p; given = tt }
-trail_of m rules s (e ∷ es) t p = trail_step m rules s p.0 t e es (is_let_in rules e) refl p.1.0 (trail_of m rules p.0 es t p.1.1)
+trail_of m rules s (x ∷ xs) t p =
+    subst (λ z. IsTrail m z (let_in rules (x ∷ xs)) t) p.0
+    (trail_step m rules x.state p.1.0 t x.entry (let_in rules xs) (is_let_in rules x) p.1.1.0 (trail_of m rules p.1.0 xs t p.1.1.1))
 
--- and each other one is answered where it stands
-other_of : {S : Type 0} (m : PlainMachine S) (rules : DoorRules S) (s : S) (before after : List Entry) (e : Entry) (t : S) →
-    Goes m rules s (before ++ e ∷ after) t → is_let_in rules e ≡ false →
-    (u : S) × (IsTrail m s (let_in rules before) u × IsAnsweredAt rules u e.door e.event e.reply × IsTrail m u (let_in rules after) t)
-other_of m rules s before after e t p out =
-    let r = goes_split m rules s before (e ∷ after) t p in
-    let u = r.0 in
-    let step : StepsBy m rules false u e r.1.1.0 = subst (λ b. StepsBy m rules b u e r.1.1.0) out r.1.1.1.0 in
-    let rest : Goes m rules u after t = subst (λ z. Goes m rules z after t) step.0 r.1.1.1.1 in
-    (u, (trail_of m rules s before u r.1.0, step.1, trail_of m rules u after t rest))
+-- and each has its place
+place_of : {S : Type 0} (m : PlainMachine S) (rules : DoorRules S) (s : S) (before after : List (Placed S)) (x : Placed S) (t : S) →
+    Passes m rules s (before ++ x ∷ after) t → HasPlace m rules s before x after t
+place_of m rules s before after x t p =
+    let r = passes_split m rules s before (x ∷ after) t p in
+    let at = r.1.1.0 in
+    record {
+      led = subst (λ z. IsTrail m s (let_in rules before) z) (sym at) (trail_of m rules s before r.0 r.1.0);
+      leads = subst (λ z. IsTrail m z (let_in rules (x ∷ after)) t) (sym at) (trail_of m rules r.0 (x ∷ after) t r.1.1);
+      answered = λ out. (subst (λ b. StepsBy m rules b x.state x.entry r.1.1.1.0) out r.1.1.1.1.0).1;
+    }
 
 pub behind_doors_of : {S : Type 0} (m : PlainMachine S) (rules : DoorRules S) (s : S) (es : List Entry) (t : S) → Goes m rules s es t →
     IsTrailBehindDoors m rules s es t
-behind_doors_of m rules s es t p = record {
-  trail = trail_of m rules s es t p;
-  others = λ before after e is out. other_of m rules s before after e t (subst (λ z. Goes m rules s z t) is p) out;
-}
+behind_doors_of m rules s es t p =
+    let r = placed_by m rules s es t p in
+    record {
+      placed = r.0;
+      all = r.1.0;
+      trail = trail_of m rules s r.0 t r.1.1;
+      places = λ before after x is. place_of m rules s before after x t (subst (λ z. Passes m rules s z t) is r.1.1);
+    }
 
 -- what the machine that is seen through a door answers
 through_step : {S : Type 0} (m : PlainMachine S) (rules : DoorRules S) (door : ℕ) (s v : S) (e : Event) (reply : List ℕ) (b : Bool) →
     ((reply ≡ (if b then m.reply s e else rules.answer door s e)) × (v ≡ (if b then m.step s e else s)))
-    ⊎ ((reply ≡ no_memory) × ((if b then m.is_sure e else rules.is_sure door e) ≡ false) × (v ≡ s)) →
+    ⊎ ((reply ≡ no_memory) × ((m.is_sure e || rules.is_sure door e) ≡ false) × (v ≡ s)) →
     StepsBy m rules b s (record { door = Some door; event = e; reply = Some reply }) v
 through_step m rules door s v e reply true p = elim p [
   | inl a ↦ (reply, (refl, inl (a.0, a.1)))
-  | inr b ↦ (reply, (refl, inr (b.0, b.1, b.2)))
+  | inr b ↦ (reply, (refl, inr (b.0, (or_parts (m.is_sure e) (rules.is_sure door e) b.1).0, b.2)))
 ]
 through_step m rules door s v e reply false p = elim p [
   | inl a ↦ (a.1, inl a.0)
-  | inr b ↦ (b.2, inr (b.0, b.1))
+  | inr b ↦ (b.2, inr (b.0, (or_parts (m.is_sure e) (rules.is_sure door e) b.1).1))
 ]
 
 goes_through : {S : Type 0} (m : PlainMachine S) (rules : DoorRules S) (door actor : ℕ) (s : S) (bodies replies : List (List ℕ)) (t : S) →
@@ -93,8 +112,8 @@ goes_through m rules door actor s (body ∷ bodies) (reply ∷ replies) t p =
     let e : Event = (actor, body) in
     let next = (seen_through m rules door).step s e in
     elim p as (λ _. Goes m rules s (with_replies (Some door) actor (body ∷ bodies) (reply ∷ replies)) t) [
-      | inl a ↦ (next, (through_step m rules door s next e reply (rules.lets_in door body) (inl (a.0, refl)), goes_through m rules door actor next bodies replies t a.1))
-      | inr b ↦ (s, (through_step m rules door s s e reply (rules.lets_in door body) (inr (b.0, b.1, refl)), goes_through m rules door actor s bodies replies t b.2))
+      | inl a ↦ (next, (through_step m rules door s next e reply (rules.lets_in door s e) (inl (a.0, refl)), goes_through m rules door actor next bodies replies t a.1))
+      | inr b ↦ (s, (through_step m rules door s s e reply (rules.lets_in door s e) (inr (b.0, b.1, refl)), goes_through m rules door actor s bodies replies t b.2))
     ]
 goes_through m rules door actor s [] (reply ∷ replies) t p = absurd p
 goes_through m rules door actor s (body ∷ bodies) [] t p = absurd p

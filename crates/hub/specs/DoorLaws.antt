@@ -1,5 +1,5 @@
 -- What a run behind doors comes to.
-use Rattle.std.specs.Prelude.{◌≡◌, ℕ, ◌+◌, Bool, true, false, List, [], ◌∷◌, ◌++◌, map, filter, Option, Some, None, ◌⊎◌}
+use Rattle.std.specs.Prelude.{◌≡◌, ℕ, ◌+◌, Bool, true, false, List, [], ◌∷◌, ◌++◌, map, Option, Some, None, ◌⊎◌, if◌then◌else◌}
 use Rattle.std.specs.Option.{option_map}
 use Rattle.tardis_base.specs.Plain.{Event, PlainMachine, Answers, no_memory}
 use Rattle.hub.specs.Settlings.{PlainSettling}
@@ -40,16 +40,25 @@ abbrev pub entries : List Turn → List Entry
 entries [] = []
 entries (turn ∷ older) = entries older ++ entries_of older turn
 
-abbrev pub lets_in_by : {S : Type 0} → DoorRules S → Option ℕ → List ℕ → Bool
-lets_in_by rules None body = true
-lets_in_by rules (Some door) body = rules.lets_in door body
+-- a request with the state before it
+pub record Placed (S : Type 0) : Type 0 where
+  pub state : S
+  pub entry : Entry
 
--- what the hub asks itself is let in, and what comes through a door is by its rules
-abbrev pub is_let_in : {S : Type 0} → DoorRules S → Entry → Bool
-is_let_in rules e = lets_in_by rules e.door e.event.1
+abbrev pub lets_in_by : {S : Type 0} → DoorRules S → Option ℕ → S → Event → Bool
+lets_in_by rules None s event = true
+lets_in_by rules (Some door) s event = rules.lets_in door s event
 
-abbrev pub let_in : {S : Type 0} → DoorRules S → List Entry → List Entry
-let_in rules es = filter (is_let_in rules) es
+-- what the hub asks itself is let in, and what comes through a door is by its rules, from the state before it
+abbrev pub is_let_in : {S : Type 0} → DoorRules S → Placed S → Bool
+is_let_in rules p = lets_in_by rules p.entry.door p.state p.entry.event
+
+-- the requests that are let in, each from the state before it
+abbrev pub let_in : {S : Type 0} → DoorRules S → List (Placed S) → List Entry
+let_in rules [] = []
+let_in rules (p ∷ ps) =
+    let more = let_in rules ps in
+    if is_let_in rules p then p.entry ∷ more else more
 
 abbrev pub IsReply : Option (List ℕ) → List ℕ → Type 0
 IsReply None reply = Unit {0}
@@ -74,12 +83,20 @@ IsAnsweredAt rules u (Some door) event (Some reply) = (reply ≡ rules.answer do
 IsAnsweredAt rules u (Some door) event None = ⊥
 IsAnsweredAt rules u None event reply = ⊥
 
--- From s the requests that were let in are one trail, in order, and lead to t; and each other one was answered at its door from
--- the state at its place, which is where the trail stood.
+-- Between s and t a request has this place: those that were let in before it lead from s to the state before it; from there it and those
+-- behind it lead to t, as far as they were let in; and where it wasn't itself, it was answered at its door from that state.
+pub record HasPlace {S : Type 0} (m : PlainMachine S) (rules : DoorRules S) (s : S) (before : List (Placed S)) (p : Placed S) (after : List (Placed S)) (t : S) : Type 0 where
+  pub led : IsTrail m s (let_in rules before) p.state
+  pub leads : IsTrail m p.state (let_in rules (p ∷ after)) t
+  pub answered : is_let_in rules p ≡ false → IsAnsweredAt rules p.state p.entry.door p.entry.event p.entry.reply
+
+-- From s these requests, each from the state before it, lead to t. Those that were let in are one trail, in order; and each has its place,
+-- so that each other one was answered at its door from the state at which the trail stood there.
 pub record IsTrailBehindDoors {S : Type 0} (m : PlainMachine S) (rules : DoorRules S) (s : S) (es : List Entry) (t : S) : Type 0 where
-  pub trail : IsTrail m s (let_in rules es) t
-  pub others : (before after : List Entry) (e : Entry) → es ≡ before ++ e ∷ after → is_let_in rules e ≡ false →
-      (u : S) × (IsTrail m s (let_in rules before) u × IsAnsweredAt rules u e.door e.event e.reply × IsTrail m u (let_in rules after) t)
+  pub placed : List (Placed S)
+  pub all : map (λ p. p.entry) placed ≡ es
+  pub trail : IsTrail m s (let_in rules placed) t
+  pub places : (before after : List (Placed S)) (p : Placed S) → placed ≡ before ++ p ∷ after → HasPlace m rules s before p after t
 
 -- Seen by what a state shows, the machine that settles is a plain one, and through each door that one as the rules say.
 pub record IsSeenBehind {S P : Type 0} (w : PlainSettling S) (m : PlainMachine P) (rules : DoorRules P) (shows : S → P) : Type 0 where

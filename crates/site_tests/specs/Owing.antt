@@ -9,7 +9,7 @@ owing = record { step = λ s e. true; reply = λ s e. 7 ∷ []; is_sure = λ e. 
 
 -- what comes through door 0 is let in
 abbrev pub first_door : DoorRules Bool
-first_door = record { lets_in = λ door body. door == 0; answer = λ door s e. 9 ∷ []; is_sure = λ door e. true }
+first_door = record { lets_in = λ door s e. door == 0; answer = λ door s e. 9 ∷ []; is_sure = λ door e. true }
 
 abbrev pub first_byte : List ℕ → ℕ
 first_byte [] = 0
