@@ -62,11 +62,11 @@ joining_rule requests = record {
   later = 64;
 }
 
--- With rules two leaves are joined by them; with `--tidy` too the floor is raised before that, and up to 4,096 states are collected.
+-- With rules two leaves are joined by them, where no other site is to join them; with `--tidy` too the floor is raised before that, and up to 4,096 states are collected.
 abbrev pub upkeep_rule : (tidy : Bool) → (rules : Option (List ℕ)) → Option UpkeepRule
 upkeep_rule tidy None = Some (tidy_rule tidy)
-upkeep_rule false (Some rules) = Some (joining_rule (watching ++ (JOIN ∷ rules) ∷ []))
-upkeep_rule true (Some rules) = Some (joining_rule (watching ++ request_spelling RaiseAuto ∷ request_spelling (Tidy 4096) ∷ (JOIN ∷ rules) ∷ []))
+upkeep_rule false (Some rules) = Some (joining_rule (watching ++ (JOIN ∷ 0 ∷ rules) ∷ []))
+upkeep_rule true (Some rules) = Some (joining_rule (watching ++ request_spelling RaiseAuto ∷ request_spelling (Tidy 4096) ∷ (JOIN ∷ 0 ∷ rules) ∷ []))
 
 -- with as many connections as are asked for; from the peers that are asked for, and as often as is asked
 abbrev pub scope_of : Daemon → Scope

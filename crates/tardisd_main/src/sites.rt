@@ -54,6 +54,9 @@ const FULL: [u8; 5] = [reply_codes::TIDIED, 0, 0, 0, 64];
 /// The request Tidy, for 4,096 states.
 const TIDY_MANY: [u8; 3] = [request_codes::TIDY, 16, 0];
 
+/// The patience of a site that joins only the leaves that are its own to join.
+const AT_ONCE: u8 = 0;
+
 /// The reply to a request to join leaves that two were joined.
 const TWO_JOINED: [u8; 2] = [join_codes::JOIN, join_codes::JOINED];
 
@@ -157,7 +160,7 @@ fn serve_ruled<M: Settling, P: Ports>(
     ensures nothing { OnErr result (ports.new ≡ ports.old) }
     ensures opening { M.opening machine.new ≡ M.opening machine.old }
 {
-    let join = join_request(alloc, rules)?;
+    let join = join_request(alloc, AT_ONCE, rules)?;
     if plan.tidy {
         let requests: [&[u8]; 5] = [&ASK_OLDEST, &STAT, &RAISE_AUTO, &TIDY_MANY, join.as_slice()];
         serve(
@@ -209,12 +212,13 @@ fn join_upkeep<'a>(requests: &'a [&'a [u8]]) -> Upkeep<'a>
     }
 }
 
-/// The request to join leaves by these rules.
-fn join_request(alloc: Global, rules: &str) -> Result<Vec<u8>, NoMemory>
-    ensures { IfOk result (λ request. request.items ≡ JOIN ∷ rules.now) }
+/// The request to join leaves with this patience and by these rules.
+fn join_request(alloc: Global, patience: u8, rules: &str) -> Result<Vec<u8>, NoMemory>
+    ensures { IfOk result (λ request. request.items ≡ JOIN ∷ patience ∷ rules.now) }
 {
     let mut request = Vec::new(alloc);
     request.push(join_codes::JOIN)?;
+    request.push(patience)?;
     request.extend_from_slice(rules.as_bytes())?;
     Ok(request)
 }
