@@ -1,9 +1,9 @@
 -- Requests to join add one record at most, which fits.
-use Rattle.std.proofs.Common.{◌≡◌, ℕ, not, List, [], ◌∷◌, Option, Some, None, IsTrue, IsFalse, inl, inr, refl, sym, ap, subst, ◌∙◌, arith}
+use Rattle.std.proofs.Common.{◌≡◌, ℕ, suc, Bool, true, false, not, if◌then◌else◌, List, [], ◌∷◌, Option, Some, None, IsTrue, IsFalse, inl, inr, refl, sym, ap, subst, ◌∙◌, arith}
 use Rattle.std.specs.Prelude.{◌==◌, ◌+◌, ◌-◌, ◌&&◌, nat_lt, nat_le, length, find, is_none, option_to_list}
 use Rattle.std.specs.List.{list_all}
 use Rattle.std.specs.Option.{option_map_or, option_or}
-use Rattle.std.proofs.lemmas.Bool.{and_parts, cases_Bool, cond-true, cond-false, not-false, false_from_ne_true, eqb-true, ltb-false, ltb-true, lt-ltb}
+use Rattle.std.proofs.lemmas.Bool.{and_parts, cases_Bool, cond-true, cond-false, not-false, false_from_ne_true, eqb-true, ltb-false, ltb-true, lt-ltb, leb-true}
 use Rattle.std.proofs.lemmas.Option.{none-some, same_Some}
 use Rattle.tardis_base.specs.declared.ids.StateId.{StateId}
 use Rattle.tardis_base.specs.declared.records.Record.{Record}
@@ -15,6 +15,7 @@ use Rattle.plain_dag.specs.States.{is_known, count_of_site}
 use Rattle.plain_dag.specs.Above.{comparable_pair}
 use Rattle.plain_dag.specs.Conflicts.{open_conflict}
 use Rattle.plain_dag.specs.Floors.{Floor, is_closed}
+use Rattle.plain_dag.specs.Forks.{leaves}
 use Rattle.plain_dag.specs.Growth.{growth_refusal}
 use Rattle.plain_site.specs.Site.{Site}
 use Rattle.plain_site.specs.Answers.{when, refuse, refuse_found}
@@ -29,9 +30,12 @@ use Rattle.plain_site.proofs.SoundHistories.{next-is_new, unfound-at}
 use Rattle.plain_site.specs.RestSpellings.{is_lasting}
 use Rattle.rule_list.specs.declared.rules.PrefixRule.{PrefixRule}
 use Rattle.join_rules.specs.declared.joints.Joint.{Joint}
-use Rattle.join_rules.specs.Joints.{first_joint}
-use Rattle.join_rules.specs.Joins.{is_join, rules_in, record_of, may_arrive, unjoined, joined, asked_to_join, with_joined}
+use Rattle.join_rules.specs.Joints.{rank, first_joint, is_for_others}
+use Rattle.join_rules.specs.Joins.{is_join, rules_in, record_of, may_arrive, added, unjoined, joined, joined_by, join, asked_to_join, with_joined}
 use Rattle.join_rules.specs.Laws.{JoinsKeepSound, JoinsAddWhatLasts, WhatLastsOfJoinsIsSeen, WhatLastsOfJoinsFits, NothingElseJoins, OthersAreAsBefore}
+use Rattle.join_rules.specs.Laws.{JoinsTakeALeaf, AreWithin, JoinedOnlyWithinPatience}
+use Rattle.join_rules.proofs.LeafCounts.{a-leaf-less}
+use Rattle.join_rules.proofs.PairLaws.{joint-is-within, joint-is-of-leaves}
 
 -- ===== What fits keeps a site sound
 
@@ -77,7 +81,7 @@ record-is-next site r sound valid fit =
 
 -- either way that a joint ends
 joint-ends : (site : Site) (joint : Joint) (P : ℕ × Option Record → Type 0) →
-    (IsTrue (may_arrive site (record_of site joint)) → P (0, Some (record_of site joint))) → P (2, None) → P (joined site (Some joint))
+    (IsTrue (may_arrive site (record_of site joint)) → P (0, Some (record_of site joint))) → P (2, None) → P (added site joint)
 joint-ends site joint P arrives stays =
     let r = record_of site joint in
     elim (cases_Bool (may_arrive site r)) [
@@ -85,19 +89,39 @@ joint-ends site joint P arrives stays =
       | inr f ↦ subst P (sym (cond-false (may_arrive site r) (0, Some r) (2, None) f)) stays
     ]
 
+-- no joint, and it isn't told that there is one
+stays-unjoined : (site : Site) (b : Bool) → unjoined site b ≡ 0 → ⊥
+stays-unjoined site true e = absurd (cc)
+stays-unjoined site false e = go (nat_lt 1 (length (leaves site.dag))) e
+  where
+    go : (b : Bool) → ◌≡◌ {A = ℕ} (if b then 2 else 1) 0 → ⊥
+    go true e = absurd (cc)
+    go false e = absurd (cc)
+
+-- each way that the fields of a request end
+fields-end : (site : Site) (patience : ℕ) (text : List ℕ) (P : ℕ × Option Record → Type 0) →
+    ((rules : List PrefixRule) (joint : Joint) → first_joint rules site.own patience site.dag ≡ Some joint → IsTrue (may_arrive site (record_of site joint)) →
+    P (0, Some (record_of site joint))) →
+    ((code : ℕ) → (code ≡ 0 → ⊥) → P (code, None)) → P (join site (patience ∷ text))
+fields-end site patience text P arrives stays = go (rules_in text)
+  where
+    found : (rules : List PrefixRule) (for_others : Bool) (o : Option Joint) → first_joint rules site.own patience site.dag ≡ o → P (joined site o for_others)
+    found rules for_others None e = stays (unjoined site for_others) (stays-unjoined site for_others)
+    found rules for_others (Some joint) e = joint-ends site joint P (λ t. arrives rules joint e t) (stays 2 (λ z. absurd (cc)))
+
+    go : (rules : Option (List PrefixRule)) → P (option_map_or (joined_by site patience) rules (3, None))
+    go None = stays 3 (λ z. absurd (cc))
+    go (Some rules) =
+        found rules (is_for_others rules site.own patience site.dag) (first_joint rules site.own patience site.dag) refl
+
 -- each way that a request ends
 request-ends : (site : Site) (bytes : List ℕ) (P : ℕ × Option Record → Type 0) →
-    ((r : Record) → IsTrue (may_arrive site r) → P (0, Some r)) → ((code : ℕ) → P (code, None)) → P (asked_to_join site bytes)
-request-ends site [] P arrives stays = stays 3
-request-ends site (code ∷ text) P arrives stays = go (rules_in text)
-  where
-    found : (joint : Option Joint) → P (joined site joint)
-    found None = stays (unjoined site)
-    found (Some joint) = joint-ends site joint P (λ t. arrives (record_of site joint) t) (stays 2)
-
-    go : (rules : Option (List PrefixRule)) → P (option_map_or (λ rules. joined site (first_joint rules site.dag)) rules (3, None))
-    go None = stays 3
-    go (Some rules) = found (first_joint rules site.dag)
+    ((patience : ℕ) (rules : List PrefixRule) (joint : Joint) → first_joint rules site.own patience site.dag ≡ Some joint →
+    IsTrue (may_arrive site (record_of site joint)) → P (0, Some (record_of site joint))) →
+    ((code : ℕ) → (code ≡ 0 → ⊥) → P (code, None)) → P (asked_to_join site bytes)
+request-ends site [] P arrives stays = stays 3 (λ z. absurd (cc))
+request-ends site (code ∷ []) P arrives stays = stays 3 (λ z. absurd (cc))
+request-ends site (code ∷ patience ∷ text) P arrives stays = fields-end site patience text P (arrives patience) stays
 
 -- ===== What is seen between two sites
 
@@ -131,9 +155,10 @@ record-between site r =
 pub joins-keep-sound : JoinsKeepSound
 joins-keep-sound site bytes sound =
     request-ends site bytes (λ end. IsSound (with_joined end.1 site))
-    (λ r may.
+    (λ patience rules joint first may.
+    let r = record_of site joint in
     let parts = and_parts (is_record r) (fits site (News (State r))) may in record-is-next site r sound parts.0 parts.1)
-    (λ code. sound)
+    (λ code other. sound)
 
 pub joins-add-what-lasts : JoinsAddWhatLasts
 joins-add-what-lasts site bytes = go (asked_to_join site bytes).1
@@ -153,14 +178,35 @@ pub what-lasts-of-joins-fits : WhatLastsOfJoinsFits
 what-lasts-of-joins-fits site bytes l =
     request-ends site bytes
     (λ end. option_map_or (λ r. Some (News (State r))) end.1 None ≡ Some l → IsTrue (is_lasting l) × IsTrue (fits (at_rest site) l))
-    (λ r may e.
+    (λ patience rules joint first may e.
+    let r = record_of site joint in
     let parts = and_parts (is_record r) (fits site (News (State r))) may in
     subst (λ m. IsTrue (is_lasting m) × IsTrue (fits (at_rest site) m)) (same_Some (News (State r)) l e) parts)
-    (λ code e. absurd (none-some l e))
+    (λ code other e. absurd (none-some l e))
 
 pub nothing-else-joins : NothingElseJoins
 nothing-else-joins site bytes =
-    request-ends site bytes (λ end. (end.0 ≡ 0 → ⊥) → with_joined end.1 site ≡ site) (λ r may other. absurd (other refl)) (λ code other. refl)
+    request-ends site bytes (λ end. (end.0 ≡ 0 → ⊥) → with_joined end.1 site ≡ site) (λ patience rules joint first may other. absurd (other refl))
+    (λ code isnt other. refl)
+
+pub joins-take-a-leaf : JoinsTakeALeaf
+joins-take-a-leaf site bytes sound =
+    request-ends site bytes (λ end. end.0 ≡ 0 → suc (length (leaves (with_joined end.1 site).dag)) ≡ length (leaves site.dag))
+    (λ patience rules joint first may e.
+    let r = record_of site joint in
+    let parts = and_parts (is_record r) (fits site (News (State r))) may in
+    a-leaf-less site.dag r sound.dag (record-is-next site r sound parts.0 parts.1).dag joint.first joint.second
+    (joint-is-of-leaves rules site.own patience joint site sound first) refl)
+    (λ code other e. absurd (other e))
+
+pub joined-only-within-patience : JoinedOnlyWithinPatience
+joined-only-within-patience site code patience text r =
+    fields-end site patience text (λ end. end.1 ≡ Some r → AreWithin site.own patience r.parents)
+    (λ rules joint first may e.
+    let within = joint-is-within rules site.own patience joint site.dag first in
+    subst (λ (s : Record). AreWithin site.own patience s.parents) (same_Some (record_of site joint) r e)
+    (joint.first, joint.second, refl, leb-true (rank site.own joint.first joint.second) patience within))
+    (λ other isnt e. absurd (none-some r e))
 
 pub others-are-as-before : OthersAreAsBefore
 others-are-as-before m site e f = (

@@ -1,7 +1,8 @@
 -- The search for two leaves that rules settle.
-use Rattle.std.proofs.Common.{◌≡◌, ℕ, suc, ◌+◌, ◌-◌, Bool, ◌<◌, ◌≤◌, ◌&&◌, not, false, List, [], ◌∷◌, ◌++◌, length, map, drop, get_or, nat_lt, Option, Some, None}
+use Rattle.std.proofs.Common.{◌≡◌, ℕ, suc, ◌+◌, ◌-◌, Bool, ◌<◌, ◌≤◌, ◌&&◌, not, false, List, [], ◌∷◌, ◌++◌, length, map, filter, drop, get_or, nat_lt, Option, Some, None, inl, inr}
 use Rattle.std.proofs.Common.{IsTrue, IsFalse, refl, sym, ap, ap₂, subst, ◌∙◌, arith, ltb-false, is_some}
-use Rattle.std.proofs.lemmas.Bool.{and_parts, and_from, cond-true, cond-false, both_ways, not-true}
+use Rattle.std.proofs.lemmas.Bool.{and_parts, and_from, cases_Bool, cond-true, cond-false, both_ways, not-true}
+use Rattle.std.proofs.lemmas.List.Elements.{filter-append}
 use Rattle.std.specs.List.{list_all}
 use Rattle.std.specs.Option.{option_or, option_map}
 use Rattle.tardis_base.specs.declared.ids.StateId.{StateId}
@@ -22,7 +23,8 @@ use Rattle.join_rules.specs.declared.settling.Settled.TheVariants.{Wide, Unmerge
 use Rattle.join_rules.specs.Valued.{value_of, values}
 use Rattle.join_rules.specs.Settlings.{MayBeSettled, SettledAs}
 use Rattle.join_rules.specs.Joints.{all_values, settled, in_order, pairs, joint_of, first_of, last_ones}
-use Rattle.join_rules.specs.Searches.{TwoLeaves, DifferentLeaves, IsJoint}
+use Rattle.join_rules.specs.declared.ranks.Turn.{Turn}
+use Rattle.join_rules.specs.Searches.{TwoLeaves, DifferentLeaves, IsJoint, is_looked_at, joint_looked_at, first_looked_at}
 use Rattle.join_rules.proofs.LeafLaws.{leaf-keys, fork-is_kept, two-are-parents, leaves-distinct}
 use Rattle.join_rules.proofs.WrittenLaws.{valued-keys, are-writes}
 
@@ -72,12 +74,20 @@ module _ (site : Site) (sound : IsSound site) (x y : StateId) (two : TwoLeaves s
       )
 
 -- in whichever order
-module _ (rules : List PrefixRule) (rs : List Record) (x y : StateId) where
-  pub straight : IsTrue (is_before x y) → joint_of rules rs (x, y) ≡ joint_of rules rs (in_order x y)
-  straight t = ap (joint_of rules rs) (sym (cond-true (is_before x y) (x, y) (y, x) t))
+module _ (turn : Turn) (rules : List PrefixRule) (rs : List Record) (x y : StateId) where
+  pub straight : IsTrue (is_before x y) → joint_looked_at turn rules rs (x, y) ≡ joint_looked_at turn rules rs (in_order x y)
+  straight t = ap (joint_looked_at turn rules rs) (sym (cond-true (is_before x y) (x, y) (y, x) t))
 
-  pub turned : IsFalse (is_before x y) → joint_of rules rs (y, x) ≡ joint_of rules rs (in_order x y)
-  turned f = ap (joint_of rules rs) (sym (cond-false (is_before x y) (x, y) (y, x) f))
+  pub turned : IsFalse (is_before x y) → joint_looked_at turn rules rs (y, x) ≡ joint_looked_at turn rules rs (in_order x y)
+  turned f = ap (joint_looked_at turn rules rs) (sym (cond-false (is_before x y) (x, y) (y, x) f))
+
+-- whether two are looked at
+module _ (turn : Turn) (rules : List PrefixRule) (rs : List Record) (two : StateId × StateId) where
+  pub looked-at : IsTrue (is_looked_at turn two) → joint_of rules rs two ≡ joint_looked_at turn rules rs two
+  looked-at t = sym (cond-true (is_looked_at turn two) (joint_of rules rs two) None t)
+
+  pub passed-over : IsFalse (is_looked_at turn two) → IsJoint (joint_looked_at turn rules rs two) None
+  passed-over f = (sym (cond-false (is_looked_at turn two) (joint_of rules rs two) None f), tt)
 
 -- ===== Slots that are those of states
 
@@ -152,24 +162,41 @@ dropped-all p (suc n) (x ∷ xs) h = dropped-all p n xs (and_parts (p x) (list_a
 
 -- ===== One leaf with others
 
-module _ (rules : List PrefixRule) (rs : List Record) where
+module _ (turn : Turn) (rules : List PrefixRule) (rs : List Record) where
+  -- the first of the pairs decides, or what is left
+  next-pair : (two : StateId × StateId) (later : List (StateId × StateId)) →
+      first_looked_at turn rules rs (two ∷ later) ≡ option_or (joint_looked_at turn rules rs two) (first_looked_at turn rules rs later)
+  next-pair two later =
+      let p = is_looked_at turn in
+      let joint = joint_of rules rs two in
+      let rest = first_looked_at turn rules rs later in
+      elim (cases_Bool (p two)) [
+        | inl t ↦
+            ap (first_of rules rs) (cond-true (p two) (two ∷ filter p later) (filter p later) t)
+            ∙ ap (λ o. option_or o rest) (sym (cond-true (p two) joint None t))
+        | inr f ↦
+            ap (first_of rules rs) (cond-false (p two) (two ∷ filter p later) (filter p later) f)
+            ∙ ap (λ o. option_or o rest) (sym (cond-false (p two) joint None f))
+      ]
+
   -- what is left decides
   abbrev pub LeftWith : StateId → List StateId → ℕ → Type 0
-  LeftWith x ys i = first_of rules rs (map (in_order x) ys) ≡ first_of rules rs (map (in_order x) (drop i ys))
+  LeftWith x ys i = first_looked_at turn rules rs (map (in_order x) ys) ≡ first_looked_at turn rules rs (map (in_order x) (drop i ys))
 
   module _ (x y : StateId) (ys : List StateId) (i : ℕ) (so : LeftWith x ys i) (left : drop i ys ≡ y ∷ drop (i + 1) ys) where
-    here : first_of rules rs (map (in_order x) ys)
-        ≡ option_or (joint_of rules rs (in_order x y)) (first_of rules rs (map (in_order x) (drop (i + 1) ys)))
-    here = so ∙ ap (λ zs. first_of rules rs (map (in_order x) zs)) left
+    here : first_looked_at turn rules rs (map (in_order x) ys)
+        ≡ option_or (joint_looked_at turn rules rs (in_order x y)) (first_looked_at turn rules rs (map (in_order x) (drop (i + 1) ys)))
+    here =
+        so ∙ ap (λ zs. first_looked_at turn rules rs (map (in_order x) zs)) left ∙ next-pair (in_order x y) (map (in_order x) (drop (i + 1) ys))
 
-    pub with-next : joint_of rules rs (in_order x y) ≡ None → LeftWith x ys (i + 1)
-    with-next none = here ∙ ap (λ o. option_or o (first_of rules rs (map (in_order x) (drop (i + 1) ys)))) none
+    pub with-next : joint_looked_at turn rules rs (in_order x y) ≡ None → LeftWith x ys (i + 1)
+    with-next none = here ∙ ap (λ o. option_or o (first_looked_at turn rules rs (map (in_order x) (drop (i + 1) ys)))) none
 
-    pub with-found : (joint : Joint) → joint_of rules rs (in_order x y) ≡ Some joint → first_of rules rs (map (in_order x) ys) ≡ Some joint
-    with-found joint some = here ∙ ap (λ o. option_or o (first_of rules rs (map (in_order x) (drop (i + 1) ys)))) some
+    pub with-found : (joint : Joint) → joint_looked_at turn rules rs (in_order x y) ≡ Some joint → first_looked_at turn rules rs (map (in_order x) ys) ≡ Some joint
+    with-found joint some = here ∙ ap (λ o. option_or o (first_looked_at turn rules rs (map (in_order x) (drop (i + 1) ys)))) some
 
-  pub with-end : (x : StateId) (ys : List StateId) (i : ℕ) → LeftWith x ys i → drop i ys ≡ [] → first_of rules rs (map (in_order x) ys) ≡ None
-  with-end x ys i so none = so ∙ ap (λ zs. first_of rules rs (map (in_order x) zs)) none
+  pub with-end : (x : StateId) (ys : List StateId) (i : ℕ) → LeftWith x ys i → drop i ys ≡ [] → first_looked_at turn rules rs (map (in_order x) ys) ≡ None
+  with-end x ys i so none = so ∙ ap (λ zs. first_looked_at turn rules rs (map (in_order x) zs)) none
 
   -- ===== Each leaf with those behind it
 
@@ -182,59 +209,65 @@ module _ (rules : List PrefixRule) (rs : List Record) where
       go None e = e
       go (Some j) e = refl
 
+  first-looked-at-both : (ps qs : List (StateId × StateId)) →
+      first_looked_at turn rules rs (ps ++ qs) ≡ option_or (first_looked_at turn rules rs ps) (first_looked_at turn rules rs qs)
+  first-looked-at-both ps qs =
+      let p = is_looked_at turn in
+      ap (first_of rules rs) (filter-append p ps qs) ∙ first-of-both (filter p ps) (filter p qs)
+
   abbrev pub LeftOf : List StateId → ℕ → Type 0
-  LeftOf xs i = first_of rules rs (pairs xs) ≡ first_of rules rs (pairs (drop i xs))
+  LeftOf xs i = first_looked_at turn rules rs (pairs xs) ≡ first_looked_at turn rules rs (pairs (drop i xs))
 
   module _ (x : StateId) (xs : List StateId) (i : ℕ) (so : LeftOf xs i) (left : drop i xs ≡ x ∷ drop (i + 1) xs) where
-    each : first_of rules rs (pairs xs)
-        ≡ option_or (first_of rules rs (map (in_order x) (drop (i + 1) xs))) (first_of rules rs (pairs (drop (i + 1) xs)))
+    each : first_looked_at turn rules rs (pairs xs)
+        ≡ option_or (first_looked_at turn rules rs (map (in_order x) (drop (i + 1) xs))) (first_looked_at turn rules rs (pairs (drop (i + 1) xs)))
     each =
         so
-        ∙ (ap (λ zs. first_of rules rs (pairs zs)) left
-        ∙ first-of-both (map (in_order x) (drop (i + 1) xs)) (pairs (drop (i + 1) xs)))
+        ∙ (ap (λ zs. first_looked_at turn rules rs (pairs zs)) left
+        ∙ first-looked-at-both (map (in_order x) (drop (i + 1) xs)) (pairs (drop (i + 1) xs)))
 
-    pub each-next : first_of rules rs (map (in_order x) (drop (i + 1) xs)) ≡ None → LeftOf xs (i + 1)
-    each-next none = each ∙ ap (λ o. option_or o (first_of rules rs (pairs (drop (i + 1) xs)))) none
+    pub each-next : first_looked_at turn rules rs (map (in_order x) (drop (i + 1) xs)) ≡ None → LeftOf xs (i + 1)
+    each-next none = each ∙ ap (λ o. option_or o (first_looked_at turn rules rs (pairs (drop (i + 1) xs)))) none
 
-    pub each-found : (joint : Joint) → first_of rules rs (map (in_order x) (drop (i + 1) xs)) ≡ Some joint → first_of rules rs (pairs xs) ≡ Some joint
-    each-found joint some = each ∙ ap (λ o. option_or o (first_of rules rs (pairs (drop (i + 1) xs)))) some
+    pub each-found : (joint : Joint) → first_looked_at turn rules rs (map (in_order x) (drop (i + 1) xs)) ≡ Some joint → first_looked_at turn rules rs (pairs xs) ≡ Some joint
+    each-found joint some = each ∙ ap (λ o. option_or o (first_looked_at turn rules rs (pairs (drop (i + 1) xs)))) some
 
-  pub each-end : (xs : List StateId) (i : ℕ) → LeftOf xs i → drop i xs ≡ [] → first_of rules rs (pairs xs) ≡ None
-  each-end xs i so none = so ∙ ap (λ zs. first_of rules rs (pairs zs)) none
+  pub each-end : (xs : List StateId) (i : ℕ) → LeftOf xs i → drop i xs ≡ [] → first_looked_at turn rules rs (pairs xs) ≡ None
+  each-end xs i so none = so ∙ ap (λ zs. first_looked_at turn rules rs (pairs zs)) none
 
 -- ===== What the search has found
 
-module _ (rules : List PrefixRule) (rs : List Record) (x y : StateId) (ys : List StateId) (i : ℕ) (so : LeftWith rules rs x ys i)
-    (left : drop i ys ≡ y ∷ drop (i + 1) ys) (found : Option Joint) (joined : IsJoint (joint_of rules rs (in_order x y)) found) where
-  pub stops-with : IsTrue (is_some found) → IsJoint (first_of rules rs (map (in_order x) ys)) found
+module _ (turn : Turn) (rules : List PrefixRule) (rs : List Record) (x y : StateId) (ys : List StateId) (i : ℕ) (so : LeftWith turn rules rs x ys i)
+    (left : drop i ys ≡ y ∷ drop (i + 1) ys) (found : Option Joint) (joined : IsJoint (joint_looked_at turn rules rs (in_order x y)) found) where
+  pub stops-with : IsTrue (is_some found) → IsJoint (first_looked_at turn rules rs (map (in_order x) ys)) found
   stops-with some = (go found some joined.0, joined.1)
     where
-      go : (o : Option Joint) → IsTrue (is_some o) → o ≡ joint_of rules rs (in_order x y) → o ≡ first_of rules rs (map (in_order x) ys)
+      go : (o : Option Joint) → IsTrue (is_some o) → o ≡ joint_looked_at turn rules rs (in_order x y) → o ≡ first_looked_at turn rules rs (map (in_order x) ys)
       go None t e = absurd (cc)
-      go (Some j) t e = sym (with-found rules rs x y ys i so left j (sym e))
+      go (Some j) t e = sym (with-found turn rules rs x y ys i so left j (sym e))
 
-  pub goes-on-with : IsFalse (is_some found) → LeftWith rules rs x ys (i + 1)
+  pub goes-on-with : IsFalse (is_some found) → LeftWith turn rules rs x ys (i + 1)
   goes-on-with none = go found none joined.0
     where
-      go : (o : Option Joint) → IsFalse (is_some o) → o ≡ joint_of rules rs (in_order x y) → LeftWith rules rs x ys (i + 1)
-      go None f e = with-next rules rs x y ys i so left (sym e)
+      go : (o : Option Joint) → IsFalse (is_some o) → o ≡ joint_looked_at turn rules rs (in_order x y) → LeftWith turn rules rs x ys (i + 1)
+      go None f e = with-next turn rules rs x y ys i so left (sym e)
       go (Some j) f e = absurd (cc)
 
-module _ (rules : List PrefixRule) (rs : List Record) (x : StateId) (xs : List StateId) (i : ℕ) (so : LeftOf rules rs xs i)
+module _ (turn : Turn) (rules : List PrefixRule) (rs : List Record) (x : StateId) (xs : List StateId) (i : ℕ) (so : LeftOf turn rules rs xs i)
     (left : drop i xs ≡ x ∷ drop (i + 1) xs) (found : Option Joint)
-    (joined : IsJoint (first_of rules rs (map (in_order x) (drop (i + 1) xs))) found) where
-  pub stops-at : IsTrue (is_some found) → IsJoint (first_of rules rs (pairs xs)) found
+    (joined : IsJoint (first_looked_at turn rules rs (map (in_order x) (drop (i + 1) xs))) found) where
+  pub stops-at : IsTrue (is_some found) → IsJoint (first_looked_at turn rules rs (pairs xs)) found
   stops-at some = (go found some joined.0, joined.1)
     where
-      go : (o : Option Joint) → IsTrue (is_some o) → o ≡ first_of rules rs (map (in_order x) (drop (i + 1) xs)) → o ≡ first_of rules rs (pairs xs)
+      go : (o : Option Joint) → IsTrue (is_some o) → o ≡ first_looked_at turn rules rs (map (in_order x) (drop (i + 1) xs)) → o ≡ first_looked_at turn rules rs (pairs xs)
       go None t e = absurd (cc)
-      go (Some j) t e = sym (each-found rules rs x xs i so left j (sym e))
+      go (Some j) t e = sym (each-found turn rules rs x xs i so left j (sym e))
 
-  pub goes-on-at : IsFalse (is_some found) → LeftOf rules rs xs (i + 1)
+  pub goes-on-at : IsFalse (is_some found) → LeftOf turn rules rs xs (i + 1)
   goes-on-at none = go found none joined.0
     where
-      go : (o : Option Joint) → IsFalse (is_some o) → o ≡ first_of rules rs (map (in_order x) (drop (i + 1) xs)) → LeftOf rules rs xs (i + 1)
-      go None f e = each-next rules rs x xs i so left (sym e)
+      go : (o : Option Joint) → IsFalse (is_some o) → o ≡ first_looked_at turn rules rs (map (in_order x) (drop (i + 1) xs)) → LeftOf turn rules rs xs (i + 1)
+      go None f e = each-next turn rules rs x xs i so left (sym e)
       go (Some j) f e = absurd (cc)
 
 -- ===== Leaves differ
@@ -244,7 +277,7 @@ dropped-among ℕ.zero xs z m = m
 dropped-among (suc n) [] z m = m
 dropped-among (suc n) (x ∷ xs) z m = among-later z x xs (dropped-among n xs z m)
 
-dropped-distinct : (n : ℕ) (xs : List StateId) → IsTrue (are_distinct xs) → IsTrue (are_distinct (drop n xs))
+pub dropped-distinct : (n : ℕ) (xs : List StateId) → IsTrue (are_distinct xs) → IsTrue (are_distinct (drop n xs))
 dropped-distinct ℕ.zero xs h = h
 dropped-distinct (suc n) [] h = refl
 dropped-distinct (suc n) (x ∷ xs) h = dropped-distinct n xs (and_parts (not (is_among x xs)) (are_distinct xs) h).1

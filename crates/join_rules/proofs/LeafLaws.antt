@@ -69,7 +69,7 @@ distinct-last (x ∷ xs) z h n =
     among-append x xs (z ∷ []) ∙ or_from (is_among x xs) (is_among x (z ∷ [])) (not-true (is_among x xs) p.0) last in
     and_from (not (is_among x (xs ++ z ∷ []))) (are_distinct (xs ++ z ∷ [])) (not_from_false (is_among x (xs ++ z ∷ [])) out) (distinct-last xs z p.1 q.1)
 
-arrived-distinct : (rs : List Record) → Grows rs → IsTrue (are_distinct (arrived rs))
+pub arrived-distinct : (rs : List Record) → Grows rs → IsTrue (are_distinct (arrived rs))
 arrived-distinct [] g = refl
 arrived-distinct (r ∷ rs) g =
     distinct-last (arrived rs) r.id (arrived-distinct rs g.1)

@@ -11,4 +11,7 @@ mod SettlingLaws
 pub mod LeafLaws
 pub mod WrittenLaws
 mod JointLaws
+mod RankLaws
+mod LeafCounts
+mod PairLaws
 pub mod JoinLaws

@@ -12,14 +12,14 @@ use Rattle.plain_site.specs.Commits.{with_record}
 use Rattle.plain_site.specs.Rest.{Lasting, News, fits}
 use Rattle.rule_list.specs.declared.rules.PrefixRule.{PrefixRule}
 use Rattle.rule_list.specs.RuleTexts.{rules_of}
-use Rattle.join_rules.specs.declared.join_codes.TheConstants.{JOIN, JOINED, ONE_LEAF, LEFT, NO_RULES}
+use Rattle.join_rules.specs.declared.join_codes.TheConstants.{JOIN, JOINED, ONE_LEAF, LEFT, NO_RULES, FOR_OTHERS}
 use Rattle.join_rules.specs.declared.joints.Joint.{Joint}
-use Rattle.join_rules.specs.Joints.{first_joint}
+use Rattle.join_rules.specs.Joints.{first_joint, is_for_others}
 
 -- a request to join leaves
 abbrev pub is_join : List ℕ → Bool
 is_join [] = false
-is_join (code ∷ text) = code == JOIN
+is_join (code ∷ fields) = code == JOIN
 
 -- the rules in its text, where that has their form
 abbrev pub rules_in : List ℕ → Option (List PrefixRule)
@@ -33,23 +33,35 @@ record_of site joint = next_record site (joint.first ∷ joint.second ∷ []) jo
 abbrev pub may_arrive : Site → Record → Bool
 may_arrive site r = is_record r && fits site (News (State r))
 
--- what is told where there is no joint: there is one leaf, or they stay apart
-abbrev pub unjoined : Site → ℕ
-unjoined site = if nat_lt 1 (length (leaves site.dag)) then LEFT else ONE_LEAF
+-- what comes of a joint, and the record that arrives
+abbrev pub added : Site → Joint → ℕ × Option Record
+added site joint = let r = record_of site joint in if may_arrive site r then (JOINED, Some r) else (LEFT, None)
 
--- What comes of a joint, and the record that arrives.
-abbrev pub joined : Site → Option Joint → ℕ × Option Record
-joined site None = (unjoined site, None)
-joined site (Some joint) = let r = record_of site joint in if may_arrive site r then (JOINED, Some r) else (LEFT, None)
+-- what is told where this site joins no two: others are to, or the leaves stay apart, or there is one
+abbrev pub unjoined : Site → (for_others : Bool) → ℕ
+unjoined site for_others =
+    if for_others then FOR_OTHERS else
+    if nat_lt 1 (length (leaves site.dag)) then LEFT else ONE_LEAF
 
--- what comes of a request's text, and the record that arrives
+-- What comes of the site's first joint, if it has one; else it is told whether others are to join two leaves.
+abbrev pub joined : Site → Option Joint → (for_others : Bool) → ℕ × Option Record
+joined site None for_others = (unjoined site for_others, None)
+joined site (Some joint) for_others = added site joint
+
+-- what comes of these rules with this patience
+abbrev pub joined_by : Site → (patience : ℕ) → List PrefixRule → ℕ × Option Record
+joined_by site patience rules =
+    joined site (first_joint rules site.own patience site.dag) (is_for_others rules site.own patience site.dag)
+
+-- what comes of a request's fields, which are its patience and the text of rules
 abbrev pub join : Site → List ℕ → ℕ × Option Record
-join site text = option_map_or (λ rules. joined site (first_joint rules site.dag)) (rules_in text) (NO_RULES, None)
+join site [] = (NO_RULES, None)
+join site (patience ∷ text) = option_map_or (joined_by site patience) (rules_in text) (NO_RULES, None)
 
 -- so of the bytes of a request
 abbrev pub asked_to_join : Site → List ℕ → ℕ × Option Record
 asked_to_join site [] = (NO_RULES, None)
-asked_to_join site (code ∷ text) = join site text
+asked_to_join site (code ∷ fields) = join site fields
 
 -- the site with the record that arrives, if one does
 abbrev pub with_joined : Option Record → Site → Site

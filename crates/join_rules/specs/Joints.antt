@@ -1,5 +1,6 @@
--- Which two leaves are joined by rules.
-use Rattle.std.specs.Prelude.{ℕ, nat_lt, length, List, [], ◌∷◌, ◌++◌, ◌-◌, map, drop, Option, Some, None, if◌then◌else◌}
+-- Which two leaves are joined by rules, and by which site.
+use Rattle.std.specs.Prelude.{ℕ, Bool, not, ◌==◌, ◌||◌, nat_lt, nat_le, min, max, length, List, [], ◌∷◌, ◌++◌, ◌-◌, map, filter, drop}
+use Rattle.std.specs.Prelude.{Option, Some, None, is_some, if◌then◌else◌}
 use Rattle.std.specs.Option.{option_map, option_or}
 use Rattle.tardis_base.specs.declared.ids.StateId.{StateId}
 use Rattle.tardis_base.specs.declared.records.Record.{Record}
@@ -48,6 +49,30 @@ first_of rules rs (two ∷ later) =
 abbrev pub last_ones : List StateId → List StateId
 last_ones xs = drop (length xs - MOST_LEAVES) xs
 
--- the first two leaves that the rules settle, among the 16 that arrived last
-abbrev pub first_joint : List PrefixRule → List Record → Option Joint
-first_joint rules rs = first_of rules rs (pairs (last_ones (leaves rs)))
+-- ===== By which site
+
+-- How long a site leaves two leaves to others. Where it made the leaf with the lesser site number it joins them at once; it waits where it
+-- made the other one, or where one other site made both; and all others wait twice as long.
+abbrev pub rank : (own : ℕ) → StateId → StateId → ℕ
+rank own x y =
+    if own == min x.site y.site then 0 else
+    if own == max x.site y.site || x.site == y.site then 1 else 2
+
+abbrev pub joins_at_once : (own : ℕ) → StateId → StateId → Bool
+joins_at_once own x y = rank own x y == 0
+
+-- its rank for the two is at most its patience
+abbrev pub is_within : (own patience : ℕ) → StateId × StateId → Bool
+is_within own patience two = nat_le (rank own two.0 two.1) patience
+
+-- each two of the 16 leaves that arrived last
+abbrev pub last_pairs : List Record → List (StateId × StateId)
+last_pairs rs = pairs (last_ones (leaves rs))
+
+-- the first two of these leaves that the rules settle, of those that a site with this number and this patience may join
+abbrev pub first_joint : List PrefixRule → (own patience : ℕ) → List Record → Option Joint
+first_joint rules own patience rs = first_of rules rs (filter (is_within own patience) (last_pairs rs))
+
+-- the rules settle two of these leaves of those that it leaves to others
+abbrev pub is_for_others : List PrefixRule → (own patience : ℕ) → List Record → Bool
+is_for_others rules own patience rs = is_some (first_of rules rs (filter (λ two. not (is_within own patience two)) (last_pairs rs)))

@@ -1,5 +1,5 @@
 -- What the search for two leaves answers.
-use Rattle.std.specs.Prelude.{◌≡◌, List, [], ◌∷◌, ◌&&◌, Option, Some, map, Result, IfOk, IfSome, IsTrue}
+use Rattle.std.specs.Prelude.{◌≡◌, ℕ, Bool, not, List, [], ◌∷◌, ◌&&◌, Option, Some, None, map, filter, Result, IfOk, IfSome, IsTrue, if◌then◌else◌}
 use Rattle.tardis_base.specs.declared.faults.NoMemory.{NoMemory as OutOfMemory}
 use Rattle.tardis_base.specs.declared.ids.StateId.{StateId}
 use Rattle.tardis_base.specs.declared.ids.Slot.{Slot}
@@ -15,7 +15,8 @@ use Rattle.plain_site.specs.Site.{Site}
 use Rattle.plain_site.specs.Sound.{IsSound}
 use Rattle.rule_list.specs.declared.rules.PrefixRule.{PrefixRule}
 use Rattle.join_rules.specs.declared.joints.Joint.{Joint}
-use Rattle.join_rules.specs.Joints.{in_order, joint_of, first_of, first_joint}
+use Rattle.join_rules.specs.declared.ranks.Turn.{Turn}
+use Rattle.join_rules.specs.Joints.{in_order, joint_of, first_of, is_within, last_pairs, first_joint, is_for_others}
 
 -- ===== Leaves
 
@@ -53,20 +54,49 @@ JoinsInOrder store rules a b result =
     (site : Site) → StoreStands store site.dag site.collected → IsSound site → (x y : StateId) → id_at store.table a ≡ Some x → id_at store.table b ≡ Some y →
     TwoLeaves site.dag x y → IfOk result (IsJoint (joint_of rules site.dag (x, y)))
 
--- of the two leaves in these slots
-abbrev pub JoinsTwo : Store → List PrefixRule → Slot → Slot → Result (Option Joint) OutOfMemory → Type 0
-JoinsTwo store rules a b result =
-    (site : Site) → StoreStands store site.dag site.collected → IsSound site → (x y : StateId) → id_at store.table a ≡ Some x → id_at store.table b ≡ Some y →
-    DifferentLeaves site.dag x y → IfOk result (IsJoint (joint_of rules site.dag (in_order x y)))
+-- the search looks at these two
+abbrev pub is_looked_at : Turn → StateId × StateId → Bool
+is_looked_at turn two = if turn.is_own then is_within turn.own turn.patience two else not (is_within turn.own turn.patience two)
 
--- of the leaf in this slot and the first of these others with which rules settle it
-abbrev pub FindsWith : Store → List PrefixRule → Slot → List Slot → Result (Option Joint) OutOfMemory → Type 0
-FindsWith store rules leaf others result =
+-- the two, where it looks at them
+abbrev pub joint_looked_at : Turn → List PrefixRule → List Record → StateId × StateId → Option Joint
+joint_looked_at turn rules rs two = if is_looked_at turn two then joint_of rules rs two else None
+
+-- the first of these at which it looks
+abbrev pub first_looked_at : Turn → List PrefixRule → List Record → List (StateId × StateId) → Option Joint
+first_looked_at turn rules rs twos = first_of rules rs (filter (is_looked_at turn) twos)
+
+-- so of the two leaves in these slots, of which the first has the lesser id
+abbrev pub JoinsLookedAt : Store → List PrefixRule → Turn → Slot → Slot → Result (Option Joint) OutOfMemory → Type 0
+JoinsLookedAt store rules turn a b result =
+    (site : Site) → StoreStands store site.dag site.collected → IsSound site → (x y : StateId) → id_at store.table a ≡ Some x → id_at store.table b ≡ Some y →
+    TwoLeaves site.dag x y → IfOk result (IsJoint (joint_looked_at turn rules site.dag (x, y)))
+
+-- of the two leaves in these slots
+abbrev pub JoinsTwo : Store → List PrefixRule → Turn → Slot → Slot → Result (Option Joint) OutOfMemory → Type 0
+JoinsTwo store rules turn a b result =
+    (site : Site) → StoreStands store site.dag site.collected → IsSound site → (x y : StateId) → id_at store.table a ≡ Some x → id_at store.table b ≡ Some y →
+    DifferentLeaves site.dag x y → IfOk result (IsJoint (joint_looked_at turn rules site.dag (in_order x y)))
+
+-- of the leaf in this slot and the first of these others with which it is looked at and rules settle it
+abbrev pub FindsWith : Store → List PrefixRule → Turn → Slot → List Slot → Result (Option Joint) OutOfMemory → Type 0
+FindsWith store rules turn leaf others result =
     (site : Site) → StoreStands store site.dag site.collected → IsSound site → (x : StateId) (ys : List StateId) → id_at store.table leaf ≡ Some x →
     map (id_at store.table) others ≡ map (λ y. Some y) ys → ((y : StateId) → IsTrue (is_among y ys) → DifferentLeaves site.dag x y) →
-    IfOk result (IsJoint (first_of rules site.dag (map (in_order x) ys)))
+    IfOk result (IsJoint (first_looked_at turn rules site.dag (map (in_order x) ys)))
+
+-- the first joint of those at which it looks, of a sound site's leaves
+abbrev pub FindsAmong : Store → List PrefixRule → Turn → Result (Option Joint) OutOfMemory → Type 0
+FindsAmong store rules turn result =
+    (site : Site) → StoreStands store site.dag site.collected → IsSound site →
+    IfOk result (IsJoint (first_looked_at turn rules site.dag (last_pairs site.dag)))
 
 -- the first joint of a sound site's leaves
-abbrev pub FindsFirst : Store → List PrefixRule → Result (Option Joint) OutOfMemory → Type 0
-FindsFirst store rules result =
-    (site : Site) → StoreStands store site.dag site.collected → IsSound site → IfOk result (IsJoint (first_joint rules site.dag))
+abbrev pub FindsFirst : Store → List PrefixRule → (own patience : ℕ) → Result (Option Joint) OutOfMemory → Type 0
+FindsFirst store rules own patience result =
+    (site : Site) → StoreStands store site.dag site.collected → IsSound site → IfOk result (IsJoint (first_joint rules own patience site.dag))
+
+-- whether there is one for others
+abbrev pub FindsForOthers : Store → List PrefixRule → (own patience : ℕ) → Result Bool OutOfMemory → Type 0
+FindsForOthers store rules own patience result =
+    (site : Site) → StoreStands store site.dag site.collected → IsSound site → IfOk result (λ found. found ≡ is_for_others rules own patience site.dag)

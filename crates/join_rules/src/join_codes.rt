@@ -13,5 +13,8 @@ pub const ONE_LEAF: u8 = 1;
 /// join them.
 pub const LEFT: u8 = 2;
 
-/// The text is no rules.
+/// The text is no rules, or there is no patience before it.
 pub const NO_RULES: u8 = 3;
+
+/// The site leaves two leaves to others: the rules settle none that it may join with its patience, but two that others are to join.
+pub const FOR_OTHERS: u8 = 4;

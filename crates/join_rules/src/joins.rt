@@ -17,7 +17,7 @@ pub fn is_join(request: &[u8]) -> bool
     }
 }
 
-/// The rules in the text of such a request, which is all behind its code.
+/// The rules in the text of such a request, which is all behind its code and its patience.
 pub fn rules_in(alloc: Global, text: &[u8]) -> Result<RuleList, RulesFault>
     ensures rules { IfOk result (λ rules. rules_in text.now ≡ Some rules) }
     ensures form { (result ≡ Err RulesFault.Form) ↔ (rules_in text.now ≡ None) }

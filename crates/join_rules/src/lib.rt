@@ -1,5 +1,5 @@
 //! Rules that join leaves: what becomes of keys in which two leaves conflict, told by the prefixes of keys; which two leaves are
-//! joined; and the request for it.
+//! joined, and by which site; and the request for it.
 //!
 //! The rules are stated in `docs/RULES.md`.
 #![tactic(auto)]
@@ -10,6 +10,7 @@ mod joins;
 mod joints;
 mod laws;
 mod parts;
+mod ranks;
 mod sets;
 mod settling;
 mod three_way;
@@ -17,7 +18,8 @@ mod unions;
 mod values;
 
 pub use joins::{is_join, rules_in};
-pub use joints::{Joint, MOST_LEAVES, first_joint};
-pub use laws::{joins_are_records, sides_may_be_exchanged};
+pub use joints::{Joint, MOST_LEAVES, first_joint, is_for_others};
+pub use laws::{joins_are_records, one_site_joins_at_once, sides_may_be_exchanged};
+pub use ranks::rank;
 pub use settling::{Settled, settle};
 pub use values::{Base, Side, merged};

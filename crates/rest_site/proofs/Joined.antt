@@ -2,7 +2,7 @@
 use Rattle.std.proofs.Common.{◌≡◌, ℕ, ◌+◌, ◌<◌, ◌≤◌, ◌==◌, ◌&&◌, Bool, true, false, not, List, [], ◌∷◌, ◌++◌, length, map, Option, Some, None, Result, Ok, Err, IsTrue, IsFalse, refl, sym, ap, ap₂, subst, ◌∙◌, arith}
 use Rattle.std.proofs.lemmas.Bool.{both_ways, and_parts, and_from, and_left, and_right, or_right, not_from_false, cond-true, cond-false, false_from_ne_true, ltb-true, lt-ltb, leb-true, le-leb, ne_eqb}
 use Rattle.std.proofs.lemmas.List.{length-map}
-use Rattle.std.specs.Prelude.{nat_lt, nat_le, ◌||◌, ◌^◌}
+use Rattle.std.specs.Prelude.{nat_lt, nat_le, ◌||◌, ◌^◌, IfOk}
 use Rattle.std.specs.Option.{option_map_or}
 use Rattle.tardis_base.specs.declared.faults.NoMemory.{NoMemory as OutOfMemory}
 use Rattle.tardis_base.specs.declared.ids.StateId.{StateId}
@@ -24,8 +24,8 @@ use Rattle.session_core.specs.Rests.{TakenBy}
 use Rattle.rule_list.specs.declared.rules.PrefixRule.{PrefixRule}
 use Rattle.join_rules.specs.declared.joints.Joint.{Joint}
 use Rattle.join_rules.specs.declared.join_codes.TheConstants.{JOINED, ONE_LEAF, LEFT, NO_RULES}
-use Rattle.join_rules.specs.Joins.{rules_in, record_of, may_arrive, unjoined, joined, join, asked_to_join, is_join}
-use Rattle.join_rules.specs.Joints.{first_joint}
+use Rattle.join_rules.specs.Joins.{rules_in, record_of, may_arrive, added, unjoined, joined, joined_by, join, asked_to_join, is_join}
+use Rattle.join_rules.specs.Joints.{first_joint, is_for_others}
 use Rattle.join_rules.specs.Searches.{MayBeJoined}
 use Rattle.rest_site.specs.Joinings.{JoinedBy, Joins, CodeOf}
 
@@ -51,24 +51,24 @@ module _ (site : Site) (joint : Joint) where
   -- it is taken
   pub took-joint : (new : Core) (id : StateId) → id ≡ next_id site → IsTrue (is_record (with_id id joint)) →
       (taken : Result Bool OutOfMemory) → TakenBy new (News (State (with_id id joint))) site taken → (code : Result ℕ OutOfMemory) →
-      CodeOf taken code → JoinedBy new (joined site (Some joint)) site code
+      CodeOf taken code → JoinedBy new (added site joint) site code
   took-joint new id is valid (Ok true) took code same =
       let there : IsTrue (fits site (News (State r))) = subst (λ x. IsTrue (fits site (News (State (with_id x joint))))) is took.0 in
       let recorded : IsTrue (is_record r) = subst (λ x. IsTrue (is_record (with_id x joint))) is valid in
       let may = and_from (is_record r) (fits site (News (State r))) recorded there in
-      subst (λ c. JoinedBy new (joined site (Some joint)) site c) (sym same)
+      subst (λ c. JoinedBy new (added site joint) site c) (sym same)
       (subst (λ end. JoinedBy new end site (Ok JOINED)) (sym (cond-true (may_arrive site r) (JOINED, Some r) (LEFT, None) may))
       (refl, subst (λ x. SiteStands new (with_record (with_id x joint) site)) is took.1))
   took-joint new id is valid (Ok false) took code same =
       let there : IsFalse (fits site (News (State r))) = subst (λ x. IsFalse (fits site (News (State (with_id x joint))))) is took.0 in
-      subst (λ c. JoinedBy new (joined site (Some joint)) site c) (sym same)
+      subst (λ c. JoinedBy new (added site joint) site c) (sym same)
       (subst (λ end. JoinedBy new end site (Ok LEFT))
       (sym (cond-false (may_arrive site r) (JOINED, Some r) (LEFT, None) (and_right (is_record r) (fits site (News (State r))) there))) (refl, took.1))
   took-joint new id is valid (Err fault) took (Ok code) same = absurd (same)
   took-joint new id is valid (Err fault) took (Err other) same = took
 
   -- no more states may be made
-  pub past-the-end : own_count site ≡ 4294967295 → (core : Core) → SiteStands core site → JoinedBy core (joined site (Some joint)) site (Ok LEFT)
+  pub past-the-end : own_count site ≡ 4294967295 → (core : Core) → SiteStands core site → JoinedBy core (added site joint) site (Ok LEFT)
   past-the-end end core stands =
       let x = r.id in
       let over : IsFalse (is_u32 (own_count site + 1)) = false_from_ne_true (is_u32 (own_count site + 1)) (λ t.
@@ -78,7 +78,7 @@ module _ (site : Site) (joint : Joint) where
       let none : IsFalse (is_record r) =
       and_left (is_id x && not (same_id x root) && are_parents r.parents) (are_writes r.writes)
       (and_left (is_id x && not (same_id x root)) (are_parents r.parents) (and_left (is_id x) (not (same_id x root)) id)) in
-      let refused : joined site (Some joint) ≡ (LEFT, None) =
+      let refused : added site joint ≡ (LEFT, None) =
       cond-false (may_arrive site r) (JOINED, Some r) (LEFT, None) (and_left (is_record r) (fits site (News (State r))) none) in
       subst (λ (end : ℕ × Option Record). JoinedBy core end site (Ok LEFT)) (sym refused) (refl, stands)
 
@@ -122,12 +122,12 @@ pub as-many : (table : Table) (slots : List Slot) (xs : List StateId) → map (i
 as-many table slots xs same = sym (length-map slots (id_at table)) ∙ (ap length same ∙ length-map xs (λ x. Some x))
 
 -- they stay apart
-pub left-apart : (site : Site) (count : ℕ) → count ≡ length (leaves site.dag) → 1 < count → LEFT ≡ unjoined site
+pub left-apart : (site : Site) (count : ℕ) → count ≡ length (leaves site.dag) → 1 < count → LEFT ≡ unjoined site false
 left-apart site count is more =
     sym (cond-true (nat_lt 1 (length (leaves site.dag))) LEFT ONE_LEAF (lt-ltb 1 (length (leaves site.dag)) (omega (arith, is, more))))
 
 -- there is one
-pub one-alone : (site : Site) (count : ℕ) → count ≡ length (leaves site.dag) → count ≤ 1 → ONE_LEAF ≡ unjoined site
+pub one-alone : (site : Site) (count : ℕ) → count ≡ length (leaves site.dag) → count ≤ 1 → ONE_LEAF ≡ unjoined site false
 one-alone site count is few =
     sym (cond-false (nat_lt 1 (length (leaves site.dag))) LEFT ONE_LEAF (false_from_ne_true (nat_lt 1 (length (leaves site.dag))) (λ t.
     let more = ltb-true 1 (length (leaves site.dag)) t in omega (arith, is, few, more))))
@@ -145,24 +145,49 @@ pub has-code : (request : List ℕ) → IsTrue (is_join request) → length requ
 has-code [] asks none = both_ways false refl asks
 has-code (code ∷ text) asks none = omega (arith, none)
 
--- a request's text is what stands behind its code
-pub asked : (site : Site) (request text : List ℕ) (code : ℕ) → request ≡ code ∷ text → join site text ≡ asked_to_join site request
-asked site request text code is = ap (asked_to_join site) (sym is)
+-- a request's fields are what stands behind its code
+pub asked : (site : Site) (request fields : List ℕ) (code : ℕ) → request ≡ code ∷ fields → join site fields ≡ asked_to_join site request
+asked site request fields code is = ap (asked_to_join site) (sym is)
 
 module _ (old new : Core) where
-  pub by-rules : (text : List ℕ) (rules : List PrefixRule) (result : Result ℕ OutOfMemory) → rules_in text ≡ Some rules →
-      Joins old new (λ s. joined s (first_joint rules s.dag)) result → Joins old new (λ s. join s text) result
-  by-rules text rules result is done = λ s stands.
-      subst (λ (o : Option (List PrefixRule)). JoinedBy new (option_map_or (λ (rs : List PrefixRule). joined s (first_joint rs s.dag)) o (NO_RULES, None)) s result)
-      (sym is) (done s stands)
+  pub by-fields : (fields text : List ℕ) (patience : ℕ) (result : Result ℕ OutOfMemory) → fields ≡ patience ∷ text →
+      Joins old new (λ s. join s (patience ∷ text)) result → Joins old new (λ s. join s fields) result
+  by-fields fields text patience result is done = subst (λ fs. Joins old new (λ s. join s fs) result) (sym is) done
 
-  pub by-joint : (rules : List PrefixRule) (found : Option Joint) (result : Result ℕ OutOfMemory) →
-      ((s : Site) → SiteStands old s → found ≡ first_joint rules s.dag) → Joins old new (λ s. joined s found) result →
-      Joins old new (λ s. joined s (first_joint rules s.dag)) result
-  by-joint rules found result is done = λ s stands.
-      subst (λ (o : Option Joint). JoinedBy new (joined s o) s result) (is s stands) (done s stands)
+  pub by-rules : (patience : ℕ) (text : List ℕ) (rules : List PrefixRule) (result : Result ℕ OutOfMemory) → rules_in text ≡ Some rules →
+      Joins old new (λ s. joined_by s patience rules) result → Joins old new (λ s. join s (patience ∷ text)) result
+  by-rules patience text rules result is done = λ s stands.
+      subst (λ (o : Option (List PrefixRule)). JoinedBy new (option_map_or (joined_by s patience) o (NO_RULES, None)) s result) (sym is) (done s stands)
 
-pub without-rules : (core : Core) (text : List ℕ) → rules_in text ≡ None → Joins core core (λ s. join s text) (Ok NO_RULES)
-without-rules core text is = λ s stands.
-    subst (λ (o : Option (List PrefixRule)). JoinedBy core (option_map_or (λ (rs : List PrefixRule). joined s (first_joint rs s.dag)) o (NO_RULES, None)) s (Ok NO_RULES))
-    (sym is) (refl, stands)
+  module _ (rules : List PrefixRule) (patience : ℕ) where
+    pub by-joint : (own : ℕ) (joint : Joint) (result : Result ℕ OutOfMemory) →
+        ((s : Site) → SiteStands old s → own ≡ s.own) → ((s : Site) → SiteStands old s → Some joint ≡ first_joint rules own patience s.dag) →
+        Joins old new (λ s. added s joint) result → Joins old new (λ s. joined_by s patience rules) result
+    by-joint own joint result owns is done = λ s stands.
+        let first = is s stands ∙ ap (λ n. first_joint rules n patience s.dag) (owns s stands) in
+        subst (λ (o : Option Joint). JoinedBy new (joined s o (is_for_others rules s.own patience s.dag)) s result) first (done s stands)
+
+module _ (core : Core) (rules : List PrefixRule) (patience : ℕ) where
+  pub by-none : (own : ℕ) (result : Result ℕ OutOfMemory) →
+      ((s : Site) → SiteStands core s → own ≡ s.own) →
+      ((s : Site) → SiteStands core s → ◌≡◌ {A = Option Joint} None (first_joint rules own patience s.dag)) →
+      ((s : Site) → SiteStands core s → IfOk result (λ code. code ≡ unjoined s (is_for_others rules s.own patience s.dag))) →
+      Joins core core (λ s. joined_by s patience rules) result
+  by-none own result owns is told = λ s stands.
+      let first = is s stands ∙ ap (λ n. first_joint rules n patience s.dag) (owns s stands) in
+      subst (λ (o : Option Joint). JoinedBy core (joined s o (is_for_others rules s.own patience s.dag)) s result) first (go s result stands (told s stands))
+    where
+      go : (s : Site) (r : Result ℕ OutOfMemory) → SiteStands core s → IfOk r (λ code. code ≡ unjoined s (is_for_others rules s.own patience s.dag)) →
+          JoinedBy core (unjoined s (is_for_others rules s.own patience s.dag), None) s r
+      go s (Ok code) stands e = (e, stands)
+      go s (Err fault) stands e = stands
+
+-- others are to join two, or not
+pub left-to-others : (site : Site) (rules : List PrefixRule) (own patience : ℕ) (found : Bool) → own ≡ site.own →
+    found ≡ is_for_others rules own patience site.dag → unjoined site found ≡ unjoined site (is_for_others rules site.own patience site.dag)
+left-to-others site rules own patience found owns is =
+    ap (unjoined site) (is ∙ ap (λ n. is_for_others rules n patience site.dag) owns)
+
+pub without-rules : (core : Core) (patience : ℕ) (text : List ℕ) → rules_in text ≡ None → Joins core core (λ s. join s (patience ∷ text)) (Ok NO_RULES)
+without-rules core patience text is = λ s stands.
+    subst (λ (o : Option (List PrefixRule)). JoinedBy core (option_map_or (joined_by s patience) o (NO_RULES, None)) s (Ok NO_RULES)) (sym is) (refl, stands)

@@ -1,18 +1,18 @@
 //! Two leaves are joined by rules.
 
-ghost use Rattle.std.specs.Prelude.{◌≡◌, ◌∷◌, ◌&&◌, not, [], Some, IsTrue, IfOk, IfSome, OnOk, OnErr};
+ghost use Rattle.std.specs.Prelude.{◌≡◌, ◌∷◌, ◌&&◌, not, false, [], IsTrue, IfOk, IfSome, OnOk, OnErr};
 ghost use Rattle.tardis_base.specs.Ids.{root, same_id};
 ghost use Rattle.tardis_base.specs.Valid.{is_id};
 ghost use Rattle.plain_site.specs.Site.{Site};
 ghost use Rattle.session_core.specs.Machine.{SiteStands, opened_with};
 ghost use Rattle.join_rules.specs.declared.join_codes.TheConstants.{JOIN};
-ghost use Rattle.join_rules.specs.Joins.{is_join, asked_to_join, with_joined, joined, unjoined, join};
-ghost use Rattle.join_rules.specs.Joints.{first_joint};
+ghost use Rattle.join_rules.specs.Joins.{is_join, asked_to_join, with_joined, added, unjoined, joined_by, join};
+ghost use Rattle.join_rules.specs.Joints.{is_for_others};
 ghost use Rattle.join_rules.specs.Searches.{MayBeJoined};
 ghost use Rattle.rest_site.specs.Joinings.{Joins, CodeOf, IsNextId};
 
-use join_rules::join_codes::{JOIN, JOINED, LEFT, NO_RULES, ONE_LEAF};
-use join_rules::{Joint, first_joint, rules_in};
+use join_rules::join_codes::{FOR_OTHERS, JOIN, JOINED, LEFT, NO_RULES, ONE_LEAF};
+use join_rules::{Joint, first_joint, is_for_others, rules_in};
 use rule_list::{RuleList, RulesFault};
 use session_core::SiteCore;
 use std::alloc::Global;
@@ -33,10 +33,10 @@ pub(crate) fn join(
     ensures opening { opened_with core.new ≡ opened_with core.old }
 {
     out.clear();
-    let Some((_, text)) = request.split_first() else {
+    let Some((_, fields)) = request.split_first() else {
         unreachable!()
     };
-    match join_by(core, alloc, text) {
+    match join_by(core, alloc, fields) {
         Ok(end) => {
             out.push_byte(JOIN);
             out.push_byte(end);
@@ -46,34 +46,67 @@ pub(crate) fn join(
     }
 }
 
-/// Joins two leaves by the rules in this text, and tells what came of it.
-fn join_by(core: &mut SiteCore, alloc: Global, text: &[u8]) -> Result<u8, NoMemory>
-    ensures joins { Joins core.old core.new (λ s. join s text.now) result }
+/// Joins two leaves by the patience and the rules in these fields, and tells what came of it.
+fn join_by(core: &mut SiteCore, alloc: Global, fields: &[u8]) -> Result<u8, NoMemory>
+    ensures joins { Joins core.old core.new (λ s. join s fields.now) result }
+    ensures opening { opened_with core.new ≡ opened_with core.old }
+{
+    match fields.split_first() {
+        Some((patience, text)) => join_by_text(core, alloc, *patience, text),
+        None => Ok(NO_RULES),
+    }
+}
+
+/// Joins two leaves with this patience by the rules in this text.
+fn join_by_text(
+    core: &mut SiteCore,
+    alloc: Global,
+    patience: u8,
+    text: &[u8],
+) -> Result<u8, NoMemory>
+    ensures joins { Joins core.old core.new (λ s. join s (patience ∷ text.now)) result }
     ensures opening { opened_with core.new ≡ opened_with core.old }
 {
     match rules_in(alloc, text) {
-        Ok(rules) => join_leaves(core, alloc, &rules),
+        Ok(rules) => join_leaves(core, alloc, patience, &rules),
         Err(RulesFault::Form) => Ok(NO_RULES),
         Err(RulesFault::NoMemory) => Err(NoMemory),
     }
 }
 
-/// Joins the first two leaves that the rules settle.
-fn join_leaves(core: &mut SiteCore, alloc: Global, rules: &RuleList) -> Result<u8, NoMemory>
-    ensures joins { Joins core.old core.new (λ s. joined s (first_joint rules.now s.dag)) result }
+/// Joins the first two leaves that the rules settle and that aren't left to others.
+fn join_leaves(
+    core: &mut SiteCore,
+    alloc: Global,
+    patience: u8,
+    rules: &RuleList,
+) -> Result<u8, NoMemory>
+    ensures joins { Joins core.old core.new (λ s. joined_by s patience rules.now) result }
     ensures opening { opened_with core.new ≡ opened_with core.old }
 {
-    let _ = core.book(); // for the proof alone
-    match first_joint(alloc, core.store(), rules) {
+    let own = core.book().own_site();
+    match first_joint(alloc, core.store(), rules, own, patience) {
         Ok(Some(joint)) => take_joint(core, alloc, joint),
-        Ok(None) => Ok(unjoined(core)),
+        Ok(None) => unjoined(core, alloc, patience, rules),
         Err(NoMemory) => Err(NoMemory),
     }
 }
 
-/// What is told where no two leaves are joined.
-fn unjoined(core: &SiteCore) -> u8
-    ensures { (s : Site) → SiteStands core.now s → result ≡ unjoined s }
+/// What is told where this site joins no two leaves.
+fn unjoined(core: &SiteCore, alloc: Global, patience: u8, rules: &RuleList) -> Result<u8, NoMemory>
+    ensures { (s : Site) → SiteStands core.now s → IfOk result (λ code. code ≡ unjoined s (is_for_others rules.now s.own patience s.dag)) }
+{
+    let own = core.book().own_site();
+    match is_for_others(alloc, core.store(), rules, own, patience) {
+        Ok(true) => Ok(FOR_OTHERS),
+        Ok(false) => Ok(apart(core)),
+        Err(NoMemory) => Err(NoMemory),
+    }
+}
+
+/// What is told where nobody is to join two.
+fn apart(core: &SiteCore) -> u8
+    ensures { (s : Site) → SiteStands core.now s → result ≡ unjoined s false }
 {
     if core.store().dag().leaf_slots().len() > 1 {
         LEFT
@@ -85,7 +118,7 @@ fn unjoined(core: &SiteCore) -> u8
 /// Takes the site's next record, which joins two leaves.
 fn take_joint(core: &mut SiteCore, alloc: Global, joint: Joint) -> Result<u8, NoMemory>
     requires may { MayBeJoined joint }
-    ensures joins { Joins core.old core.new (λ s. joined s (Some joint)) result }
+    ensures joins { Joins core.old core.new (λ s. added s joint) result }
     ensures opening { opened_with core.new ≡ opened_with core.old }
 {
     let Some(id) = next_id(core) else {

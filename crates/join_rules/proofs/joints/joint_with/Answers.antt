@@ -14,7 +14,7 @@ returns-then-is_some c = λ site stands sound x ys ex eys leaves.
     let i = c.loop-place.place in
     let at = named-next (id_at c.args.store.now.table) c.args.others.now ys i (record { 0 = 0 }) eys c.loop-place-test.true in
     let among = dropped-among i ys at.state (subst (λ zs. IsTrue (is_among at.state zs)) (sym at.next) (among-first at.state (drop (i + 1) ys))) in
-    stops-with c.args.rules.now site.dag x at.state ys i (c.loop-place.invariant site stands sound x ys ex eys leaves) at.next
+    stops-with c.args.turn c.args.rules.now site.dag x at.state ys i (c.loop-place.invariant site stands sound x ys ex eys leaves) at.next
     c.in_ok-joint.joint (c.in_ok-joint.ensures site stands sound x at.state ex at.named (leaves at.state among)) (sym c.is_some.ensures ∙ c.if-is_some.true)
 
 pub loop-place-preserved : goal.loop-place-preserved
@@ -22,10 +22,10 @@ loop-place-preserved c = λ site stands sound x ys ex eys leaves.
     let i = c.loop-place.place in
     let at = named-next (id_at c.args.store.now.table) c.args.others.now ys i (record { 0 = 0 }) eys c.loop-place-test.true in
     let among = dropped-among i ys at.state (subst (λ zs. IsTrue (is_among at.state zs)) (sym at.next) (among-first at.state (drop (i + 1) ys))) in
-    goes-on-with c.args.rules.now site.dag x at.state ys i (c.loop-place.invariant site stands sound x ys ex eys leaves) at.next
+    goes-on-with c.args.turn c.args.rules.now site.dag x at.state ys i (c.loop-place.invariant site stands sound x ys ex eys leaves) at.next
     c.in_ok-joint.joint (c.in_ok-joint.ensures site stands sound x at.state ex at.named (leaves at.state among)) (sym c.is_some.ensures ∙ c.if-is_some.false)
 
 pub returns : goal.returns
 returns c = λ site stands sound x ys ex eys leaves.
     let none = none-left (id_at c.args.store.now.table) c.args.others.now ys eys c.loop-place.place (omega (arith, c.loop-place-test.false)) in
-    (sym (with-end c.args.rules.now site.dag x ys c.loop-place.place (c.loop-place.invariant site stands sound x ys ex eys leaves) none), tt)
+    (sym (with-end c.args.turn c.args.rules.now site.dag x ys c.loop-place.place (c.loop-place.invariant site stands sound x ys ex eys leaves) none), tt)

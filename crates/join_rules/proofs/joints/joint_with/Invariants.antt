@@ -13,4 +13,4 @@ abbrev pub invariant-loop-place : goal.invariant-loop-place
 invariant-loop-place l =
     (site : Site) → StoreStands l.store site.dag site.collected → IsSound site → (x : StateId) (ys : List StateId) → id_at l.store.table l.leaf ≡ Some x →
     map (id_at l.store.table) l.others ≡ map (λ y. Some y) ys → ((y : StateId) → IsTrue (is_among y ys) → DifferentLeaves site.dag x y) →
-    LeftWith l.rules site.dag x ys l.place
+    LeftWith l.turn l.rules site.dag x ys l.place

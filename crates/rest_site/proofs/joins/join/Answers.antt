@@ -12,11 +12,11 @@ unreachable-requires c = absurd (has-code c.args.request.now c.requires.asks c.i
 pub returns-in-Ok-clause-reply : goal.returns-in-Ok-clause-reply
 returns-in-Ok-clause-reply c = λ s stands.
     let request = c.args.request.now in
-    let is = asked s request c.in-Some.text.now c.in-Some.field-0-0.now c.in-Some.ensures.cases.0 in
+    let is = asked s request c.in-Some.fields.now c.in-Some.field-0-0.now c.in-Some.ensures.cases.0 in
     replied c.clear.new.self c.push_byte.new.self c.push_byte-in-Ok.new.self JOIN c.in-Ok.end (asked_to_join s request).0 c.clear.ensures c.push_byte.ensures
     c.push_byte-in-Ok.ensures ((c.in-Ok.ensures.joins s stands).0 ∙ ap (λ (end : ℕ × Option Record). end.0) is)
 
 pub returns-in-Ok-clause-step : goal.returns-in-Ok-clause-step
 returns-in-Ok-clause-step c = λ s stands.
     subst (λ (end : ℕ × Option Record). SiteStands c.join_by.new.core (with_joined end.1 s))
-    (asked s c.args.request.now c.in-Some.text.now c.in-Some.field-0-0.now c.in-Some.ensures.cases.0) (c.in-Ok.ensures.joins s stands).1
+    (asked s c.args.request.now c.in-Some.fields.now c.in-Some.field-0-0.now c.in-Some.ensures.cases.0) (c.in-Ok.ensures.joins s stands).1

@@ -1,18 +1,18 @@
-use Rattle.std.proofs.Common.{length, sym, subst}
-use Rattle.plain_dag.specs.Forks.{leaves}
-use Rattle.state_dag.specs.Table.{Table}
-use Rattle.state_dag.specs.Stands.{Stands}
-use Rattle.rest_site.proofs.Joined.{as-many, left-apart, one-alone}
+use Rattle.std.proofs.Common.{◌≡◌, true, false, ap, sym, ◌∙◌}
+use Rattle.ceiling_book.specs.Book.{Book}
+use Rattle.rest_site.proofs.Joined.{left-to-others}
 use Rattle.rest_site.proofs.joins.unjoined.Goals as goal
 
-pub returns-then-leaf_slots-gt1 : goal.returns-then-leaf_slots-gt1
-returns-then-leaf_slots-gt1 c = λ s stands.
-    let slots = c.leaf_slots.result.now in
-    let table = subst (λ (t : Table). Stands t s.dag s.collected) (sym c.dag.ensures) (c.store.ensures.stands s stands.0).table in
-    left-apart s (length slots) (as-many c.dag.result.now slots (leaves s.dag) (c.leaf_slots.ensures.leaves s.dag s.collected table)) c.if-leaf_slots-gt1.true
+pub returns-in-Ok-true : goal.returns-in-Ok-true
+returns-in-Ok-true c = λ s stands.
+    let own = c.own_site-own.ensures.is ∙ (ap (λ (b : Book). b.own) c.book.ensures.is ∙ stands.0.own) in
+    let found : c.in-Ok-true.field-0 ≡ true = cc in
+    left-to-others s c.args.rules.now c.own_site-own.result c.args.patience true own
+    (sym found ∙ c.in-Ok-true.ensures s (c.store.ensures.stands s stands.0) stands.1)
 
-pub returns-else-leaf_slots-gt1 : goal.returns-else-leaf_slots-gt1
-returns-else-leaf_slots-gt1 c = λ s stands.
-    let slots = c.leaf_slots.result.now in
-    let table = subst (λ (t : Table). Stands t s.dag s.collected) (sym c.dag.ensures) (c.store.ensures.stands s stands.0).table in
-    one-alone s (length slots) (as-many c.dag.result.now slots (leaves s.dag) (c.leaf_slots.ensures.leaves s.dag s.collected table)) c.if-leaf_slots-gt1.false
+pub returns-in-Ok-false : goal.returns-in-Ok-false
+returns-in-Ok-false c = λ s stands.
+    let own = c.own_site-own.ensures.is ∙ (ap (λ (b : Book). b.own) c.book.ensures.is ∙ stands.0.own) in
+    let found : c.in-Ok-false.field-0 ≡ false = cc in
+    c.apart.ensures s stands ∙ left-to-others s c.args.rules.now c.own_site-own.result c.args.patience false own
+    (sym found ∙ c.in-Ok-false.ensures s (c.store.ensures.stands s stands.0) stands.1)

@@ -7,12 +7,12 @@ use Rattle.plain_site.specs.Site.{Site}
 use Rattle.plain_site.specs.Sound.{IsSound}
 use Rattle.join_rules.specs.Joints.{last_ones}
 use Rattle.join_rules.proofs.JointLaws.{LeftOf}
-use Rattle.join_rules.proofs.joints.first_joint.Given as goal
+use Rattle.join_rules.proofs.joints.first_settled.Given as goal
 
 abbrev pub invariant-loop-place : goal.invariant-loop-place
 invariant-loop-place l = record {
   slots : IsTrue (list_all (is_slot l.store.table) (drop l.place l.leaves));
   named : (site : Site) → StoreStands l.store site.dag site.collected → IsSound site →
       map (id_at l.store.table) l.leaves ≡ map (λ y. Some y) (last_ones (leaves site.dag));
-  found : (site : Site) → StoreStands l.store site.dag site.collected → IsSound site → LeftOf l.rules site.dag (last_ones (leaves site.dag)) l.place;
+  found : (site : Site) → StoreStands l.store site.dag site.collected → IsSound site → LeftOf l.turn l.rules site.dag (last_ones (leaves site.dag)) l.place;
 }
