@@ -1,11 +1,12 @@
 -- Items that were delivered so far.
 use Rattle.std.proofs.Common.{◌≡◌, ◌∙◌, ℕ, ◌+◌, ◌-◌, ◌<◌, ◌≤◌, min, Bool, true, false, List, [], ◌∷◌, ◌++◌, length, map, take, drop, ◌⊎◌, inl, inr, slice_get, Some, refl, ap, sym, subst, arith}
-use Rattle.std.specs.Prelude.{◌||◌}
+use Rattle.std.specs.Prelude.{◌||◌, filter, if◌then◌else◌}
 use Rattle.std.proofs.lemmas.Bool.{cases_lt}
-use Rattle.std.proofs.lemmas.List.{map-append, take_all, length-drop}
+use Rattle.std.proofs.lemmas.List.{map-append, take_all, length-drop, length-append}
+use Rattle.std.proofs.lemmas.List.Elements.{filter-append}
 use Rattle.tardis_base.specs.declared.records.Item.{Item}
 use Rattle.tardis_base.specs.Plain.{Event, PlainMachine, Answers, no_memory}
-use Rattle.site_peers.specs.Asking.{by_nobody, delivery, is_applied, any_applied}
+use Rattle.site_peers.specs.Asking.{by_nobody, delivery, is_applied, any_applied, lacks_room, refused_of}
 use Rattle.site_peers.specs.Moves.{most_a_turn}
 use Rattle.site_peers.specs.Turns.{Answered, AnswersFrom}
 
@@ -55,26 +56,44 @@ any_more : (replies : List (List ℕ)) (reply : List ℕ) → (any_applied repli
 any_more [] reply = last_one (is_applied reply)
 any_more (y ∷ ys) reply = first_or (is_applied y) (any_applied ys) (is_applied reply) (any_applied (ys ++ reply ∷ [])) (any_more ys reply)
 
+one_refused : (reply : List ℕ) (b : Bool) → lacks_room reply ≡ b → (if b then 1 else 0) ≡ length (if b then reply ∷ [] else [])
+one_refused reply true is = refl
+one_refused reply false is = refl
+
+refused_more : (replies : List (List ℕ)) (reply : List ℕ) → refused_of replies + (if lacks_room reply then 1 else 0) ≡ refused_of (replies ++ reply ∷ [])
+refused_more replies reply =
+    ap (λ n. refused_of replies + n) (one_refused reply (lacks_room reply) refl)
+    ∙ sym (ap length (filter-append lacks_room replies (reply ∷ [])) ∙ length-append (filter lacks_room replies) (filter lacks_room (reply ∷ [])))
+
+at_most_one : (b : Bool) → (if b then 1 else 0) ≤ 1
+at_most_one true = omega arith
+at_most_one false = omega arith
+
 -- so many of the items were delivered
-pub record DeliveredSo {S : Type 0} (m : PlainMachine S) (from to : S → Type 0) (items : List Item) (place : ℕ) (left : List Item) (useful : Bool) : Type 0 where
+pub record DeliveredSo {S : Type 0} (m : PlainMachine S) (from to : S → Type 0) (items : List Item) (place : ℕ) (left : List Item) (useful : Bool) (refused : ℕ) :
+    Type 0 where
   pub replies : List (List ℕ)
   pub left_is : left ≡ drop place items
   pub answered : AnswersFrom m from to (map delivery (take place items)) replies
   pub useful_is : useful ≡ any_applied replies
+  pub refused_is : refused ≡ refused_of replies
+  pub few : refused ≤ place
 
-pub delivered_none : {S : Type 0} (m : PlainMachine S) (from : S → Type 0) (items : List Item) → DeliveredSo m from from items 0 items false
+pub delivered_none : {S : Type 0} (m : PlainMachine S) (from : S → Type 0) (items : List Item) → DeliveredSo m from from items 0 items false 0
 delivered_none m from items = record {
   replies = [];
   left_is = refl;
   answered = λ s f. record { state = s; answers = refl; stands = f };
   useful_is = refl;
+  refused_is = refl;
+  few = omega arith;
 }
 
-pub delivered_more : {S : Type 0} (m : PlainMachine S) (from mid to : S → Type 0) (items : List Item) (place : ℕ) (left : List Item) (useful : Bool) (item : Item)
-    (rest : List Item) (reply : List ℕ) (applied more : Bool) → DeliveredSo m from mid items place left useful → left ≡ item ∷ rest →
+pub delivered_more : {S : Type 0} (m : PlainMachine S) (from mid to : S → Type 0) (items : List Item) (place : ℕ) (left : List Item) (useful : Bool)
+    (refused : ℕ) (item : Item) (rest : List Item) (reply : List ℕ) (applied more lacks : Bool) (count : ℕ) → DeliveredSo m from mid items place left useful refused → left ≡ item ∷ rest →
     AnswersFrom m mid to (delivery item ∷ []) (reply ∷ []) → applied ≡ is_applied reply → more ≡ (useful || applied) →
-    DeliveredSo m from to items (place + 1) rest more
-delivered_more m from mid to items place left useful item rest reply applied more d first one is both =
+    lacks ≡ lacks_room reply → count ≡ refused + (if lacks then 1 else 0) → DeliveredSo m from to items (place + 1) rest more count
+delivered_more m from mid to items place left useful refused item rest reply applied more lacks count d first one is both lacks_is count_is =
     let next = drop_next place items item rest (sym d.left_is ∙ first) in
     record {
       replies = d.replies ++ reply ∷ [];
@@ -83,6 +102,9 @@ delivered_more m from mid to items place left useful item rest reply applied mor
           (sym (ap (map delivery) next.1 ∙ map-append delivery (take place items) (item ∷ [])))
           (answered_then m mid to (map delivery (take place items)) (delivery item ∷ []) d.replies (reply ∷ []) s (d.answered s f) one);
       useful_is = both ∙ (ap (λ b. useful || b) is ∙ (ap (λ b. b || is_applied reply) d.useful_is ∙ any_more d.replies reply));
+      refused_is = count_is ∙ (ap (λ b. refused + (if b then 1 else 0)) lacks_is
+          ∙ (ap (λ n. n + (if lacks_room reply then 1 else 0)) d.refused_is ∙ refused_more d.replies reply));
+      few = omega (arith, count_is, at_most_one lacks, d.few);
     }
 
 drop_past : {X : Type 0} (n : ℕ) (xs : List X) → length xs ≤ n → drop n xs ≡ []
@@ -103,23 +125,25 @@ first_n k n xs is = elim (cases_lt (length xs) n) as (λ _. (take k xs ≡ take 
 ]
 
 -- the first 64 were delivered
-pub record DeliveredAll {S : Type 0} (m : PlainMachine S) (from to : S → Type 0) (items left : List Item) (useful : Bool) : Type 0 where
+pub record DeliveredAll {S : Type 0} (m : PlainMachine S) (from to : S → Type 0) (items left : List Item) (useful : Bool) (refused : ℕ) : Type 0 where
   pub left_is : left ≡ drop most_a_turn items
-  pub delivered : (replies : List (List ℕ)) × (AnswersFrom m from to (map delivery (take most_a_turn items)) replies × (useful ≡ any_applied replies))
+  pub delivered : (replies : List (List ℕ)) × (AnswersFrom m from to (map delivery (take most_a_turn items)) replies
+      × ((useful ≡ any_applied replies) × (refused ≡ refused_of replies)))
 
-pub delivered_all : {S : Type 0} (m : PlainMachine S) (from to : S → Type 0) (items : List Item) (place count : ℕ) (left : List Item) (useful : Bool) →
-    DeliveredSo m from to items place left useful → place ≡ count → count ≡ min (length items) most_a_turn → DeliveredAll m from to items left useful
-delivered_all m from to items place count left useful d is few =
+pub delivered_all : {S : Type 0} (m : PlainMachine S) (from to : S → Type 0) (items : List Item) (place count : ℕ) (left : List Item) (useful : Bool) (refused : ℕ)
+    → DeliveredSo m from to items place left useful refused → place ≡ count → count ≡ min (length items) most_a_turn →
+    DeliveredAll m from to items left useful refused
+delivered_all m from to items place count left useful refused d is few =
     let all = first_n place most_a_turn items (is ∙ few) in
     record {
       left_is = d.left_is ∙ all.1;
-      delivered = (d.replies, (subst (λ xs. AnswersFrom m from to (map delivery xs) d.replies) all.0 d.answered, d.useful_is));
+      delivered = (d.replies, (subst (λ xs. AnswersFrom m from to (map delivery xs) d.replies) all.0 d.answered, (d.useful_is, d.refused_is)));
     }
 
 -- some are left
-pub some_left : {S : Type 0} (m : PlainMachine S) (from to : S → Type 0) (items : List Item) (place count : ℕ) (left : List Item) (useful : Bool) →
-    DeliveredSo m from to items place left useful → place < count → count ≡ min (length items) most_a_turn → 0 < length left
-some_left m from to items place count left useful d low few =
+pub some_left : {S : Type 0} (m : PlainMachine S) (from to : S → Type 0) (items : List Item) (place count : ℕ) (left : List Item) (useful : Bool) (refused : ℕ)
+    → DeliveredSo m from to items place left useful refused → place < count → count ≡ min (length items) most_a_turn → 0 < length left
+some_left m from to items place count left useful refused d low few =
     let many : length left ≡ length items - place = ap length d.left_is ∙ length-drop place items in
     omega (arith, many, low, few)
 

@@ -1,7 +1,8 @@
 -- Exchanges, turn by turn.
-use Rattle.std.proofs.Common.{◌≡◌, ◌∙◌, ℕ, Bool, true, false, List, [], ◌∷◌, ◌++◌, map, take, drop, ◌⊎◌, inl, inr, refl, ap, sym, subst, append_assoc}
-use Rattle.std.specs.Prelude.{◌||◌, if◌then◌else◌}
-use Rattle.std.proofs.lemmas.List.{append-nil, map-append, take-append-drop}
+use Rattle.std.proofs.Common.{◌≡◌, ◌∙◌, ℕ, Bool, true, false, List, [], ◌∷◌, ◌++◌, map, take, drop, ◌⊎◌, min, ◌+◌, length, arith, inl, inr, refl, ap, sym, subst, append_assoc}
+use Rattle.std.specs.Prelude.{◌||◌, ◌&&◌, filter, if◌then◌else◌}
+use Rattle.std.proofs.lemmas.List.{append-nil, map-append, take-append-drop, length-append}
+use Rattle.std.proofs.lemmas.List.Elements.{filter-append}
 use Rattle.tardis_base.specs.declared.records.Item.{Item}
 use Rattle.frame_cut.specs.Frames.{frame}
 use Rattle.site_peers.specs.declared.deeds.Deed.{Deed}
@@ -16,9 +17,9 @@ use Rattle.site_peers.specs.declared.moments.Moment.{Moment}
 use Rattle.site_peers.specs.declared.moments.Moment.TheVariants.{Away, Calling, Greeting, Greeted, Idle, Asked, Delivering}
 use Rattle.site_peers.specs.declared.peers.Peer.{Peer}
 use Rattle.site_peers.specs.Questions.{QuestionState}
-use Rattle.site_peers.specs.Asking.{stat, delivery, AreStatistics, any_applied, meeting, verdict}
+use Rattle.site_peers.specs.Asking.{stat, delivery, AreStatistics, any_applied, lacks_room, refused_of, meeting, verdict}
 use Rattle.site_peers.specs.Hearing.{StartsWith, IsHeard}
-use Rattle.site_peers.specs.Moves.{is_told, News, Time, Through, Over, Came, Sent, most_a_turn, with_left, Rests, Becomes, Breaks, Asks, MayAsk, GoesBy, Delivers, HearsOf, Uses, GreetsOf, Learns, WritesNone, Moves}
+use Rattle.site_peers.specs.Moves.{is_told, News, Time, Through, Over, Came, Sent, most_a_turn, most_refused, alone, AsksNothing, Leaves, Rests, Becomes, Breaks, Asks, MayAsk, GoesBy, Delivers, HearsOf, Uses, GreetsOf, Learns, WritesNone, Moves}
 use Rattle.site_peers.specs.Moves.{OnTime, OnThrough, OnOver, OnCame, OnBytes, OnSent}
 use Rattle.site_peers.specs.Runs.{PeerTurn, Went, Exchange, wrote_in, came_in, is_failure, is_call, more_of, begun_by, told_of, begins, within, last_more, exchanges, IsQuestion, IsAnswered, IsOver, AreOver, IsAsking, IsDelivered, Fit}
 
@@ -37,9 +38,9 @@ abbrev Fits : Moment → Bool → List Exchange → Type 0
 Fits (Asked since question) false es = ⊥
 Fits (Asked since question) true [] = ⊥
 Fits (Asked since question) true (e ∷ es) = IsAsking e question × AreOver es
-Fits (Delivering items connected full useful) false es = ⊥
-Fits (Delivering items connected full useful) true [] = ⊥
-Fits (Delivering items connected full useful) true (e ∷ es) = IsDelivered e items × AreOver es
+Fits (Delivering items connected full useful refused) false es = ⊥
+Fits (Delivering items connected full useful refused) true [] = ⊥
+Fits (Delivering items connected full useful refused) true (e ∷ es) = IsDelivered e items refused × AreOver es
 Fits (Calling since) true es = ⊥
 Fits (Calling since) false es = AreOver es
 Fits (Greeting since question) true es = ⊥
@@ -73,6 +74,9 @@ module _ (t : PeerTurn) (e : Exchange) where
   none_asked : t.bodies ≡ [] → (more_of t e).asked ≡ e.asked
   none_asked none = ap (λ bodies. e.asked ++ bodies) none ∙ append-nil e.asked
 
+  none_replied : t.replies ≡ [] → (more_of t e).replied ≡ e.replied
+  none_replied none = ap (λ replies. e.replied ++ replies) none ∙ append-nil e.replied
+
   question_more : (left rest : List ℕ) → left ≡ wrote_in t.news ++ rest → IsQuestion e left → IsQuestion (more_of t e) rest
   question_more left rest front q = record {
     lines = q.lines;
@@ -102,24 +106,24 @@ module _ (t : PeerTurn) (e : Exchange) where
   answered_same : (left : List Item) → t.bodies ≡ [] → IsAnswered e left → IsAnswered (more_of t e) left
   answered_same left none a = answered_more left left [] none refl a
 
-  over_more : t.bodies ≡ [] → wrote_in t.news ≡ [] → IsOver e → IsOver (more_of t e)
-  over_more none wrote (inl a) = inl (record {
+  over_more : AsksNothing t.bodies t.replies → wrote_in t.news ≡ [] → IsOver e → IsOver (more_of t e)
+  over_more (none, silent) wrote (inl a) = inl (record {
     failed = still_failed e.failed (is_failure t.deed) a.failed;
     wrote = ap (λ z. e.wrote ++ z) wrote ∙ (append-nil e.wrote ∙ a.wrote);
     asked = none_asked none ∙ a.asked;
   })
-  over_more none wrote (inr (inl a)) = inr (inl (record {
+  over_more (none, silent) wrote (inr (inl a)) = inr (inl (record {
     failed = still_failed e.failed (is_failure t.deed) a.failed;
     unwritten = a.unwritten;
     question = question_more a.unwritten a.unwritten (ap (λ z. z ++ a.unwritten) (sym wrote)) a.question;
     asked = none_asked none ∙ a.asked;
   }))
-  over_more none wrote (inr (inr a)) = inr (inr (record {
+  over_more (none, silent) wrote (inr (inr a)) = inr (inr (record {
     question = question_more [] [] (ap (λ z. z ++ []) (sym wrote)) a.question;
     left = a.left;
     answered = answered_same a.left none a.answered;
-    all = elim a.all as (λ _. (a.left ≡ []) ⊎ ((e.failed || is_failure t.deed) ≡ true)) [
-      | inl no_more ↦ inl no_more
+    all = elim a.all as (λ _. ((a.left ≡ []) × (refused_of (e.replied ++ t.replies) ≡ 0)) ⊎ ((e.failed || is_failure t.deed) ≡ true)) [
+      | inl no_more ↦ inl (no_more.0, ap refused_of (none_replied silent) ∙ no_more.1)
       | inr f ↦ inr (still_failed e.failed (is_failure t.deed) f)
     ];
   }))
@@ -135,30 +139,33 @@ module _ (t : PeerTurn) (e : Exchange) where
   }))
 
   -- an answer that wasn't delivered whole
-  delivered_failed : (left : List Item) (why : Failure) (told : Bool) → t.bodies ≡ [] → wrote_in t.news ≡ [] → t.deed ≡ Fail why told → IsDelivered e left →
-      IsOver (more_of t e)
-  delivered_failed left why told none wrote deed d = inr (inr (record {
+  delivered_failed : (left : List Item) (refused : ℕ) (why : Failure) (told : Bool) → t.bodies ≡ [] → wrote_in t.news ≡ [] → t.deed ≡ Fail why told →
+      IsDelivered e left refused → IsOver (more_of t e)
+  delivered_failed left refused why told none wrote deed d = inr (inr (record {
     question = question_more [] [] (ap (λ z. z ++ []) (sym wrote)) d.question;
     left = left;
     answered = answered_same left none d.answered;
     all = inr (now_failed e.failed (is_failure t.deed) (failure t.deed why told deed));
   }))
 
-  delivered_same : (left : List Item) → t.bodies ≡ [] → wrote_in t.news ≡ [] → IsDelivered e left → IsDelivered (more_of t e) left
-  delivered_same left none wrote d = record {
+  delivered_same : (left : List Item) (refused : ℕ) → AsksNothing t.bodies t.replies → wrote_in t.news ≡ [] → IsDelivered e left refused →
+      IsDelivered (more_of t e) left refused
+  delivered_same left refused (none, silent) wrote d = record {
     question = question_more [] [] (ap (λ z. z ++ []) (sym wrote)) d.question;
     answered = answered_same left none d.answered;
+    counted = d.counted ∙ ap (λ z. min (refused_of z) most_refused) (sym (none_replied silent));
   }
 
-  asking_same : (question : QuestionState) → t.bodies ≡ [] → wrote_in t.news ≡ [] → came_in t.news ≡ [] → IsAsking e question → IsAsking (more_of t e) question
-  asking_same question none wrote came a = record {
+  asking_same : (question : QuestionState) → AsksNothing t.bodies t.replies → wrote_in t.news ≡ [] → came_in t.news ≡ [] → IsAsking e question → IsAsking (more_of t e) question
+  asking_same question (none, silent) wrote came a = record {
     asks = question_more question.left question.left (ap (λ z. z ++ question.left) (sym wrote)) a.asks;
     came = ap (λ z. e.came ++ z) came ∙ (append-nil e.came ∙ a.came);
     asked = none_asked none ∙ a.asked;
+    replied = none_replied silent ∙ a.replied;
   }
 
 -- the exchanges that are over stay over
-all_over : (t : PeerTurn) (on : Bool) (es : List Exchange) → t.bodies ≡ [] → wrote_in t.news ≡ [] → AreOver es → AreOver (later t on es)
+all_over : (t : PeerTurn) (on : Bool) (es : List Exchange) → AsksNothing t.bodies t.replies → wrote_in t.news ≡ [] → AreOver es → AreOver (later t on es)
 all_over t false es none wrote o = o
 all_over t true [] none wrote o = tt
 all_over t true (e ∷ es) none wrote o = (over_more t e none wrote o.0, o.1)
@@ -171,14 +178,20 @@ begins_none (item ∷ items) = begins_none items
 abbrev turn_of : (now : ℕ) → News → (bodies replies : List (List ℕ)) → Deed → PeerTurn
 turn_of now news bodies replies deed = record { now = now; news = news; bodies = bodies; replies = replies; deed = deed }
 
--- what is left of an answer, or that the exchange is over
-left_over : (p : Peer) (now : ℕ) (rest : List Item) (connected full useful : Bool) (e : Exchange) (es : List Exchange) → IsDelivered e rest → AreOver es →
-    Fits (with_left p now rest connected full useful).moment true (e ∷ es)
-left_over p now [] true full useful e es d over =
-    (inr (inr (record { question = d.question; left = []; answered = d.answered; all = inl refl })), over)
-left_over p now [] false full useful e es d over =
-    (inr (inr (record { question = d.question; left = []; answered = d.answered; all = inl refl })), over)
-left_over p now (item ∷ items) connected full useful e es d over = (d, over)
+-- with a connection or without, no exchange goes on
+over_alone : (connected : Bool) (now wait : ℕ) (es : List Exchange) → AreOver es → Fits (alone connected now wait) true es
+over_alone true now wait es over = over
+over_alone false now wait es over = over
+
+refused_append : (xs ys : List (List ℕ)) → refused_of (xs ++ ys) ≡ refused_of xs + refused_of ys
+refused_append xs ys = ap length (filter-append lacks_room xs ys) ∙ length-append (filter lacks_room xs) (filter lacks_room ys)
+
+counted_more : (refused : ℕ) (xs ys : List (List ℕ)) → refused ≡ min (refused_of xs) most_refused →
+    min (refused + refused_of ys) most_refused ≡ min (refused_of (xs ++ ys)) most_refused
+counted_more refused xs ys is = omega (arith, is, refused_append xs ys)
+
+none_refused : (refused : ℕ) (xs : List (List ℕ)) → refused ≡ min (refused_of xs) most_refused → refused ≡ 0 → refused_of xs ≡ 0
+none_refused refused xs is none = omega (arith, is, none)
 
 module _ (p : Peer) (now : ℕ) (bodies replies : List (List ℕ)) (deed : Deed) (q : Peer) (news : News) where
   abbrev t : PeerTurn
@@ -229,6 +242,7 @@ module _ (p : Peer) (now : ℕ) (bodies replies : List (List ℕ)) (deed : Deed)
             asks = record { lines = pulls.lines; counts = subst (λ z. AreStatistics z pulls.lines) (sym is) pulls.counts; wrote = refl };
             came = refl;
             asked = refl;
+            replied = refl;
           },
           over,
         )
@@ -253,7 +267,7 @@ module _ (p : Peer) (now : ℕ) (bodies replies : List (List ℕ)) (deed : Deed)
   may_ask on es over wrote (inl a) =
       begun on es (ap begins a.asked)
       (began bodies replies es over a (ap (λ z. told_of z replies) a.asked ∙ ap (λ z. told_of (stat ∷ []) z) a.replied))
-  may_ask on es over wrote (inr b) = broke NoMemory on es b (all_over t on es b.none.0 wrote over)
+  may_ask on es over wrote (inr b) = broke NoMemory on es b (all_over t on es b.none wrote over)
 
   -- the site was asked to meet the peer, and nothing behind that
   met_only : (introduction : List ℕ) (more told : List (List ℕ)) (why : Failure) (es : List Exchange) → AreOver es → bodies ≡ meeting introduction ∷ more →
@@ -278,30 +292,63 @@ module _ (p : Peer) (now : ℕ) (bodies replies : List (List ℕ)) (deed : Deed)
   went_by introduction reply more told n es over asked replied (inl (is, inr b)) = met_only introduction more told NoMemory es over asked b
   went_by introduction reply more told n es over asked replied (inr (other, b)) = met_only introduction more told (NotMet n) es over asked b
 
+  -- what is left of an answer, or that the exchange is over
+  left_over : (rest : List Item) (connected full useful : Bool) (refused : ℕ) (e : Exchange) (es : List Exchange) → IsDelivered (more_of t e) rest refused →
+      AreOver es → Leaves p now deed q rest connected full useful refused → (is_call deed ≡ false) × Fits q.moment true (more_of t e ∷ es)
+  left_over [] connected full useful refused e es d over (inl (none, goes)) = (
+    ap is_call goes.deed_is,
+    subst (λ m. Fits m true (more_of t e ∷ es)) (sym (ap (λ (x : Peer). x.moment) goes.next))
+        (over_alone connected now (if full && useful then 0 else p.every) (more_of t e ∷ es) (
+          inr (inr (record {
+            question = d.question;
+            left = [];
+            answered = d.answered;
+            all = inl (refl, none_refused refused (more_of t e).replied d.counted none);
+          })),
+          over,
+        )),
+  )
+  left_over [] connected full useful refused e es d over (inr (some, f)) = (
+    ap is_call f.deed_is,
+    subst (λ m. Fits m true (more_of t e ∷ es)) (sym (ap (λ (x : Peer). x.moment) f.next)) (
+      inr (inr (record {
+        question = d.question;
+        left = [];
+        answered = d.answered;
+        all = inr (now_failed e.failed (is_failure deed) (ap is_failure f.deed_is));
+      })),
+      over,
+    ),
+  )
+  left_over (item ∷ items) connected full useful refused e es d over goes = (
+    ap is_call goes.deed_is,
+    subst (λ m. Fits m true (more_of t e ∷ es)) (sym (ap (λ (x : Peer). x.moment) goes.next)) (d, over),
+  )
+
   -- items were delivered
-  delivered : (items : List Item) (connected full useful : Bool) (e : Exchange) (es : List Exchange) → wrote_in news ≡ [] → IsDelivered e items → AreOver es →
-      Delivers p now bodies replies deed q items connected full useful → Stays true (e ∷ es)
-  delivered items connected full useful e es wrote d over m =
+  delivered : (items : List Item) (connected full useful : Bool) (refused : ℕ) (e : Exchange) (es : List Exchange) → wrote_in news ≡ [] →
+      IsDelivered e items refused → AreOver es → Delivers p now bodies replies deed q items connected full useful refused → Stays true (e ∷ es)
+  delivered items connected full useful refused e es wrote d over m =
       let rest = drop most_a_turn items in
       let none : begins bodies ≡ false = ap begins m.asked ∙ begins_none (take most_a_turn items) in
-      let on : goes_on t true ≡ true =
-      ap (λ b. if b then true else (if is_call deed then false else true)) none ∙ ap (λ x. if is_call x then false else true) m.deed_is in
-      let same : next t true (e ∷ es) ≡ more_of t e ∷ es =
-      ap (λ b. if b then begun_by t ∷ e ∷ es else later t (goes_on t true) (e ∷ es)) none ∙ ap (λ c. later t c (e ∷ es)) on in
-      let more : IsDelivered (more_of t e) rest = record {
+      let more : IsDelivered (more_of t e) rest (min (refused + refused_of replies) most_refused) = record {
         question = question_more t e [] [] (ap (λ z. z ++ []) (sym wrote)) d.question;
         answered = answered_more t e items rest (take most_a_turn items) m.asked (sym (take-append-drop most_a_turn items)) d.answered;
+        counted = counted_more refused e.replied replies d.counted;
       } in
-      subst (λ c. Fits q.moment c (next t true (e ∷ es))) (sym on)
-      (subst (λ z. Fits q.moment true z) (sym same)
-      (subst (λ (x : Peer). Fits x.moment true (more_of t e ∷ es)) (sym m.next)
-      (left_over p now rest connected full (useful || any_applied replies) (more_of t e) es more over)))
+      let stays =
+      left_over rest connected full (useful || any_applied replies) (min (refused + refused_of replies) most_refused) e es more over m.leaves in
+      let on : goes_on t true ≡ true =
+      ap (λ b. if b then true else (if is_call deed then false else true)) none ∙ ap (λ c. if c then false else true) stays.0 in
+      let same : next t true (e ∷ es) ≡ more_of t e ∷ es =
+      ap (λ b. if b then begun_by t ∷ e ∷ es else later t (goes_on t true) (e ∷ es)) none ∙ ap (λ c. later t c (e ∷ es)) on in
+      subst (λ c. Fits q.moment c (next t true (e ∷ es))) (sym on) (subst (λ z. Fits q.moment true z) (sym same) stays.1)
 
   -- the time
   on_time : (moment : Moment) (on : Bool) (es : List Exchange) → p.moment ≡ moment → wrote_in news ≡ [] → came_in news ≡ [] → Fits moment on es →
       OnTime p now bodies replies deed q moment → Stays on es
   on_time (Away since wait) on es is w c fit (inl m) = called on es fit m.1
-  on_time (Away since wait) on es is w c fit (inr m) = rested (Away since wait) on es is m.1 (all_over t on es m.1.none.0 w fit)
+  on_time (Away since wait) on es is w c fit (inr m) = rested (Away since wait) on es is m.1 (all_over t on es m.1.none w fit)
   on_time (Calling since) true es is w c fit m = absurd fit
   on_time (Calling since) false es is w c fit (inl m) = broke Late false es m.1 fit
   on_time (Calling since) false es is w c fit (inr m) = rested (Calling since) false es is m.1 fit
@@ -311,36 +358,36 @@ module _ (p : Peer) (now : ℕ) (bodies replies : List (List ℕ)) (deed : Deed)
   on_time (Greeted answer) true es is w c fit m = absurd fit
   on_time (Greeted answer) false es is w c fit m = went_by answer m.reply m.more m.told (verdict m.reply) es fit m.asked m.replied m.goes
   on_time (Idle since wait) on es is w c fit (inl m) = may_ask on es fit w m.1
-  on_time (Idle since wait) on es is w c fit (inr m) = rested (Idle since wait) on es is m.1 (all_over t on es m.1.none.0 w fit)
+  on_time (Idle since wait) on es is w c fit (inr m) = rested (Idle since wait) on es is m.1 (all_over t on es m.1.none w fit)
   on_time (Asked since question) false es is w c fit m = absurd fit
   on_time (Asked since question) true [] is w c fit m = absurd fit
   on_time (Asked since question) true (e ∷ es) is w c fit (inl m) =
       broke Late true (e ∷ es) m.1 (asking_failed t e question Late (is_told p.last Late) m.1.none.0 w m.1.failed.deed_is fit.0, fit.1)
   on_time (Asked since question) true (e ∷ es) is w c fit (inr m) =
-      rested (Asked since question) true (e ∷ es) is m.1 (asking_same t e question m.1.none.0 w c fit.0, fit.1)
-  on_time (Delivering items connected full useful) false es is w c fit m = absurd fit
-  on_time (Delivering items connected full useful) true [] is w c fit m = absurd fit
-  on_time (Delivering items connected full useful) true (e ∷ es) is w c fit m = delivered items connected full useful e es w fit.0 fit.1 m
+      rested (Asked since question) true (e ∷ es) is m.1 (asking_same t e question m.1.none w c fit.0, fit.1)
+  on_time (Delivering items connected full useful refused) false es is w c fit m = absurd fit
+  on_time (Delivering items connected full useful refused) true [] is w c fit m = absurd fit
+  on_time (Delivering items connected full useful refused) true (e ∷ es) is w c fit m = delivered items connected full useful refused e es w fit.0 fit.1 m
 
   -- nothing was done
   on_rest : (moment : Moment) (on : Bool) (es : List Exchange) → p.moment ≡ moment → wrote_in news ≡ [] → came_in news ≡ [] → Fits moment on es →
       Rests p now bodies replies deed q → Stays on es
-  on_rest (Away since wait) on es is w c fit r = rested (Away since wait) on es is r (all_over t on es r.none.0 w fit)
+  on_rest (Away since wait) on es is w c fit r = rested (Away since wait) on es is r (all_over t on es r.none w fit)
   on_rest (Calling since) true es is w c fit r = absurd fit
   on_rest (Calling since) false es is w c fit r = rested (Calling since) false es is r fit
   on_rest (Greeting since question) true es is w c fit r = absurd fit
   on_rest (Greeting since question) false es is w c fit r = rested (Greeting since question) false es is r fit
   on_rest (Greeted answer) true es is w c fit r = absurd fit
   on_rest (Greeted answer) false es is w c fit r = rested (Greeted answer) false es is r fit
-  on_rest (Idle since wait) on es is w c fit r = rested (Idle since wait) on es is r (all_over t on es r.none.0 w fit)
+  on_rest (Idle since wait) on es is w c fit r = rested (Idle since wait) on es is r (all_over t on es r.none w fit)
   on_rest (Asked since question) false es is w c fit r = absurd fit
   on_rest (Asked since question) true [] is w c fit r = absurd fit
   on_rest (Asked since question) true (e ∷ es) is w c fit r =
-      rested (Asked since question) true (e ∷ es) is r (asking_same t e question r.none.0 w c fit.0, fit.1)
-  on_rest (Delivering items connected full useful) false es is w c fit r = absurd fit
-  on_rest (Delivering items connected full useful) true [] is w c fit r = absurd fit
-  on_rest (Delivering items connected full useful) true (e ∷ es) is w c fit r =
-      rested (Delivering items connected full useful) true (e ∷ es) is r (delivered_same t e items r.none.0 w fit.0, fit.1)
+      rested (Asked since question) true (e ∷ es) is r (asking_same t e question r.none w c fit.0, fit.1)
+  on_rest (Delivering items connected full useful refused) false es is w c fit r = absurd fit
+  on_rest (Delivering items connected full useful refused) true [] is w c fit r = absurd fit
+  on_rest (Delivering items connected full useful refused) true (e ∷ es) is w c fit r =
+      rested (Delivering items connected full useful refused) true (e ∷ es) is r (delivered_same t e items refused r.none w fit.0, fit.1)
 
   -- the call came through
   on_through : (moment : Moment) (on : Bool) (es : List Exchange) → p.moment ≡ moment → wrote_in news ≡ [] → came_in news ≡ [] → Fits moment on es →
@@ -353,7 +400,7 @@ module _ (p : Peer) (now : ℕ) (bodies replies : List (List ℕ)) (deed : Deed)
   on_through (Greeted answer) on es is w c fit m = on_rest (Greeted answer) on es is w c fit m
   on_through (Idle since wait) on es is w c fit m = on_rest (Idle since wait) on es is w c fit m
   on_through (Asked since question) on es is w c fit m = on_rest (Asked since question) on es is w c fit m
-  on_through (Delivering items connected full useful) on es is w c fit m = on_rest (Delivering items connected full useful) on es is w c fit m
+  on_through (Delivering items connected full useful refused) on es is w c fit m = on_rest (Delivering items connected full useful refused) on es is w c fit m
 
   -- the connection is over
   on_over : (moment : Moment) (on : Bool) (es : List Exchange) → p.moment ≡ moment → wrote_in news ≡ [] → came_in news ≡ [] → Fits moment on es →
@@ -365,16 +412,16 @@ module _ (p : Peer) (now : ℕ) (bodies replies : List (List ℕ)) (deed : Deed)
   on_over (Greeting since question) false es is w c fit m = broke Cut false es m fit
   on_over (Greeted answer) true es is w c fit m = absurd fit
   on_over (Greeted answer) false es is w c fit m = broke Cut false es m fit
-  on_over (Idle since wait) on es is w c fit m = became Close (Away since wait) on es refl m (all_over t on es m.none.0 w fit)
+  on_over (Idle since wait) on es is w c fit m = became Close (Away since wait) on es refl m (all_over t on es m.none w fit)
   on_over (Asked since question) false es is w c fit m = absurd fit
   on_over (Asked since question) true [] is w c fit m = absurd fit
   on_over (Asked since question) true (e ∷ es) is w c fit m =
       broke Cut true (e ∷ es) m (asking_failed t e question Cut (is_told p.last Cut) m.none.0 w m.failed.deed_is fit.0, fit.1)
-  on_over (Delivering items true full useful) false es is w c fit m = absurd fit
-  on_over (Delivering items true full useful) true [] is w c fit m = absurd fit
-  on_over (Delivering items true full useful) true (e ∷ es) is w c fit m =
-      became Close (Delivering items false full useful) true (e ∷ es) refl m (delivered_same t e items m.none.0 w fit.0, fit.1)
-  on_over (Delivering items false full useful) on es is w c fit m = on_rest (Delivering items false full useful) on es is w c fit m
+  on_over (Delivering items true full useful refused) false es is w c fit m = absurd fit
+  on_over (Delivering items true full useful refused) true [] is w c fit m = absurd fit
+  on_over (Delivering items true full useful refused) true (e ∷ es) is w c fit m =
+      became Close (Delivering items false full useful refused) true (e ∷ es) refl m (delivered_same t e items refused m.none w fit.0, fit.1)
+  on_over (Delivering items false full useful refused) on es is w c fit m = on_rest (Delivering items false full useful refused) on es is w c fit m
 
   -- what came of an introduction was used
   on_introduced : (since : ℕ) (es : List Exchange) → AreOver es → (introduced : Introduced) → Learns p now bodies replies deed q since introduced →
@@ -397,11 +444,12 @@ module _ (p : Peer) (now : ℕ) (bodies replies : List (List ℕ)) (deed : Deed)
           asks = question_more t e [] [] (ap (λ z. z ++ []) (sym w)) (subst (λ z. IsQuestion e z) sent a.asks);
           came = ap (λ z. z ++ came_in news) a.came ∙ sym all;
           asked = none_asked t e m.none.0 ∙ a.asked;
+          replied = none_replied t e m.none.1 ∙ a.replied;
         }),
         over,
       )
   on_heard since came question e es w all sent a over (Answer items full) (body, batch, starts, spelled, are, f) m =
-      became Stay (Delivering items true full false) true (e ∷ es) refl m (
+      became Stay (Delivering items true full false 0) true (e ∷ es) refl m (
         record {
           question = question_more t e [] [] (ap (λ z. z ++ []) (sym w)) (subst (λ z. IsQuestion e z) sent a.asks);
           answered = record {
@@ -412,6 +460,7 @@ module _ (p : Peer) (now : ℕ) (bodies replies : List (List ℕ)) (deed : Deed)
             spelled = spelled;
             delivered = ap (λ z. z ++ map delivery items) (none_asked t e m.none.0 ∙ a.asked) ∙ ap (map delivery) are;
           };
+          counted = sym (ap (λ z. min (refused_of z) most_refused) (none_replied t e m.none.1 ∙ a.replied));
         },
         over,
       )
@@ -428,26 +477,26 @@ module _ (p : Peer) (now : ℕ) (bodies replies : List (List ℕ)) (deed : Deed)
   -- bytes came
   on_bytes : (bytes : List ℕ) (moment : Moment) (on : Bool) (es : List Exchange) → came_in news ≡ bytes → p.moment ≡ moment → wrote_in news ≡ [] →
       Fits moment on es → OnBytes p now bodies replies deed q bytes moment → Stays on es
-  on_bytes bytes (Away since wait) on es c is w fit m = rested (Away since wait) on es is m (all_over t on es m.none.0 w fit)
+  on_bytes bytes (Away since wait) on es c is w fit m = rested (Away since wait) on es is m (all_over t on es m.none w fit)
   on_bytes bytes (Calling since) true es c is w fit m = absurd fit
   on_bytes bytes (Calling since) false es c is w fit m = rested (Calling since) false es is m fit
   on_bytes bytes (Greeting since question) true es c is w fit m = absurd fit
   on_bytes bytes (Greeting since question) false es c is w fit m = on_greeting since question.left (question.came ++ bytes) es fit m
   on_bytes bytes (Greeted answer) true es c is w fit m = absurd fit
   on_bytes bytes (Greeted answer) false es c is w fit m = broke Unasked false es m fit
-  on_bytes bytes (Idle since wait) on es c is w fit m = broke Unasked on es m (all_over t on es m.none.0 w fit)
+  on_bytes bytes (Idle since wait) on es c is w fit m = broke Unasked on es m (all_over t on es m.none w fit)
   on_bytes bytes (Asked since question) false es c is w fit m = absurd fit
   on_bytes bytes (Asked since question) true [] c is w fit m = absurd fit
   on_bytes bytes (Asked since question) true (e ∷ es) c is w fit m =
       on_question since question.left (question.came ++ bytes) question e es w (ap (λ z. question.came ++ z) (sym c)) refl fit.0 fit.1 m
-  on_bytes bytes (Delivering items true full useful) false es c is w fit m = absurd fit
-  on_bytes bytes (Delivering items true full useful) true [] c is w fit m = absurd fit
-  on_bytes bytes (Delivering items true full useful) true (e ∷ es) c is w fit m =
-      broke Unasked true (e ∷ es) m (delivered_failed t e items Unasked (is_told p.last Unasked) m.none.0 w m.failed.deed_is fit.0, fit.1)
-  on_bytes bytes (Delivering items false full useful) false es c is w fit m = absurd fit
-  on_bytes bytes (Delivering items false full useful) true [] c is w fit m = absurd fit
-  on_bytes bytes (Delivering items false full useful) true (e ∷ es) c is w fit m =
-      rested (Delivering items false full useful) true (e ∷ es) is m (delivered_same t e items m.none.0 w fit.0, fit.1)
+  on_bytes bytes (Delivering items true full useful refused) false es c is w fit m = absurd fit
+  on_bytes bytes (Delivering items true full useful refused) true [] c is w fit m = absurd fit
+  on_bytes bytes (Delivering items true full useful refused) true (e ∷ es) c is w fit m =
+      broke Unasked true (e ∷ es) m (delivered_failed t e items refused Unasked (is_told p.last Unasked) m.none.0 w m.failed.deed_is fit.0, fit.1)
+  on_bytes bytes (Delivering items false full useful refused) false es c is w fit m = absurd fit
+  on_bytes bytes (Delivering items false full useful refused) true [] c is w fit m = absurd fit
+  on_bytes bytes (Delivering items false full useful refused) true (e ∷ es) c is w fit m =
+      rested (Delivering items false full useful refused) true (e ∷ es) is m (delivered_same t e items refused m.none w fit.0, fit.1)
 
   on_came : (bytes : List ℕ) (on : Bool) (es : List Exchange) → came_in news ≡ bytes → wrote_in news ≡ [] → Fits p.moment on es →
       OnCame p now bodies replies deed q bytes p.moment → Stays on es
@@ -472,6 +521,7 @@ module _ (p : Peer) (now : ℕ) (bodies replies : List (List ℕ)) (deed : Deed)
           asks = question_more t e question.left m.left (m.front ∙ ap (λ z. z ++ m.left) (sym w)) fit.0.asks;
           came = ap (λ z. e.came ++ z) c ∙ (append-nil e.came ∙ fit.0.came);
           asked = none_asked t e m.becomes.none.0 ∙ fit.0.asked;
+          replied = none_replied t e m.becomes.none.1 ∙ fit.0.replied;
         },
         fit.1,
       )
@@ -479,8 +529,8 @@ module _ (p : Peer) (now : ℕ) (bodies replies : List (List ℕ)) (deed : Deed)
   on_sent bytes (Calling since) on es w c is fit m = none_written bytes (Calling since) on es w c is fit m
   on_sent bytes (Greeted answer) on es w c is fit m = none_written bytes (Greeted answer) on es w c is fit m
   on_sent bytes (Idle since wait) on es w c is fit m = none_written bytes (Idle since wait) on es w c is fit m
-  on_sent bytes (Delivering items connected full useful) on es w c is fit m =
-      none_written bytes (Delivering items connected full useful) on es w c is fit m
+  on_sent bytes (Delivering items connected full useful refused) on es w c is fit m =
+      none_written bytes (Delivering items connected full useful refused) on es w c is fit m
 
 one_turn : (p : Peer) (now : ℕ) (news : News) (bodies replies : List (List ℕ)) (deed : Deed) (q : Peer) (on : Bool) (es : List Exchange) →
     Fits p.moment on es → Moves p now bodies replies deed q news →
@@ -508,9 +558,9 @@ seen (Idle since wait) on es fit = fit
 seen (Asked since question) false es fit = absurd fit
 seen (Asked since question) true [] fit = absurd fit
 seen (Asked since question) true (e ∷ es) fit = fit
-seen (Delivering items connected full useful) false es fit = absurd fit
-seen (Delivering items connected full useful) true [] fit = absurd fit
-seen (Delivering items connected full useful) true (e ∷ es) fit = fit
+seen (Delivering items connected full useful refused) false es fit = absurd fit
+seen (Delivering items connected full useful refused) true [] fit = absurd fit
+seen (Delivering items connected full useful refused) true (e ∷ es) fit = fit
 
 pub exchanges_are_whole : (every : ℕ) (turns : List PeerTurn) (q : Peer) → Went every turns q → Fit q.moment (exchanges turns)
 exchanges_are_whole every turns q went = seen q.moment (within turns) (exchanges turns) (all_fit every turns q went)

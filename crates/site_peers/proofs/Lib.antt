@@ -8,3 +8,4 @@ mod Shortness
 mod Worked
 mod Exchanging
 mod Meeting
+mod Rooms

@@ -6,7 +6,7 @@ use Rattle.std.proofs.lemmas.List.{append-nil}
 use Rattle.site_peers.specs.declared.deeds.Deed.{Deed}
 use Rattle.site_peers.specs.declared.deeds.Deed.TheVariants.{Stay, Call, Close, Fail}
 use Rattle.site_peers.specs.declared.deeds.Failure.{Failure}
-use Rattle.site_peers.specs.declared.deeds.Failure.TheVariants.{NotReached, Late, Cut, NotMet, Unasked, NoCounts, NoMemory}
+use Rattle.site_peers.specs.declared.deeds.Failure.TheVariants.{NotReached, Late, Cut, NotMet, Unasked, NoCounts, NoMemory, NoRoom}
 use Rattle.site_peers.specs.declared.hearing.Heard.{Heard}
 use Rattle.site_peers.specs.declared.hearing.Heard.TheVariants.{More, Answer, Other}
 use Rattle.site_peers.specs.declared.introductions.Introduced.{Introduced}
@@ -21,7 +21,7 @@ use Rattle.site_peers.specs.Questions.{QuestionState}
 use Rattle.site_peers.specs.Asking.{greeting, meeting, met, verdict}
 use Rattle.site_peers.specs.Hearing.{StartsWith}
 use Rattle.site_peers.specs.Introductions.{IsIntroduced}
-use Rattle.site_peers.specs.Moves.{is_told, News, Time, Through, Over, Came, Sent, with_left, is_called, HasFailed, Rests, Becomes, Breaks, Asks, MayAsk, GoesBy, HearsOf, Uses, GreetsOf, Learns, WritesNone, Moves}
+use Rattle.site_peers.specs.Moves.{is_told, News, Time, Through, Over, Came, Sent, Leaves, is_called, HasFailed, Rests, Becomes, Breaks, Asks, MayAsk, GoesBy, HearsOf, Uses, GreetsOf, Learns, WritesNone, Moves}
 use Rattle.site_peers.specs.Moves.{OnTime, OnThrough, OnOver, OnCame, OnBytes, OnSent}
 use Rattle.site_peers.specs.Runs.{PeerTurn, Went, wrote_in, came_in, is_call}
 use Rattle.site_peers.specs.Connections.{since_call, is_through, came_through, came_since, wrote_since, asked_since, IsMet, IsNotAsked}
@@ -64,7 +64,7 @@ StandsBy (Greeting since question) turns = IsGreeting turns question
 StandsBy (Greeted answer) turns = IsGreeted turns answer
 StandsBy (Idle since wait) turns = IsMet turns
 StandsBy (Asked since question) turns = IsMet turns
-StandsBy (Delivering items connected full useful) turns = IsMet turns
+StandsBy (Delivering items connected full useful refused) turns = IsMet turns
 
 or_true : (a b : Bool) → b ≡ true → (a || b) ≡ true
 or_true true b is = refl
@@ -204,11 +204,15 @@ module _ (p : Peer) (now : ℕ) (bodies replies : List (List ℕ)) (deed : Deed)
   went_by introduction reply more told turns w k asked replied (inr (other, b)) =
       met_only introduction more told (NotMet (verdict reply)) turns w k asked b
 
-  left_over : (rest : List Item) (connected full useful : Bool) (turns : List PeerTurn) → IsMet turns →
-      StandsBy (with_left p now rest connected full useful).moment turns
-  left_over [] true full useful turns is = is
-  left_over [] false full useful turns is = inl is
-  left_over (item ∷ items) connected full useful turns is = is
+  left_over : (rest : List Item) (connected full useful : Bool) (refused : ℕ) (turns : List PeerTurn) → IsMet turns →
+      Leaves p now deed q rest connected full useful refused → Stays turns
+  left_over [] true full useful refused turns is (inl (none, goes)) =
+      settled turns _ Stay goes.deed_is refl (ap (λ (x : Peer). x.moment) goes.next) (inr is)
+  left_over [] false full useful refused turns is (inl (none, goes)) =
+      settled turns _ Stay goes.deed_is refl (ap (λ (x : Peer). x.moment) goes.next) (inl (inr is))
+  left_over [] connected full useful refused turns is (inr (some, f)) = failed_now (NoRoom refused) turns f (inl (inr is))
+  left_over (item ∷ items) connected full useful refused turns is goes =
+      settled turns _ Stay goes.deed_is refl (ap (λ (x : Peer). x.moment) goes.next) (inr is)
 
   -- the time
   on_time : (moment : Moment) (turns : List PeerTurn) → p.moment ≡ moment → is_through news ≡ false → wrote_in news ≡ [] → came_in news ≡ [] →
@@ -226,8 +230,8 @@ module _ (p : Peer) (now : ℕ) (bodies replies : List (List ℕ)) (deed : Deed)
   on_time (Idle since wait) turns is h w c k (inr m) = rested (Idle since wait) turns is m.1 (inr k)
   on_time (Asked since question) turns is h w c k (inl m) = failed_now Late turns m.1.failed (inl (inr k))
   on_time (Asked since question) turns is h w c k (inr m) = rested (Asked since question) turns is m.1 (inr k)
-  on_time (Delivering items connected full useful) turns is h w c k m =
-      settled turns _ Stay m.deed_is refl (ap (λ (x : Peer). x.moment) m.next) (left_over _ connected full _ (t ∷ turns) (inr k))
+  on_time (Delivering items connected full useful refused) turns is h w c k m =
+      left_over _ connected full _ _ turns k m.leaves
 
   -- nothing was done
   on_rest : (moment : Moment) (turns : List PeerTurn) → p.moment ≡ moment → is_through news ≡ false ⊎ (is_called moment ≡ false) → wrote_in news ≡ [] →
@@ -239,7 +243,7 @@ module _ (p : Peer) (now : ℕ) (bodies replies : List (List ℕ)) (deed : Deed)
   on_rest (Greeted answer) turns is h w c k r = rested (Greeted answer) turns is r (greeted_same t turns answer r.none.0 w c k)
   on_rest (Idle since wait) turns is h w c k r = rested (Idle since wait) turns is r (inr k)
   on_rest (Asked since question) turns is h w c k r = rested (Asked since question) turns is r (inr k)
-  on_rest (Delivering items connected full useful) turns is h w c k r = rested (Delivering items connected full useful) turns is r (inr k)
+  on_rest (Delivering items connected full useful refused) turns is h w c k r = rested (Delivering items connected full useful refused) turns is r (inr k)
 
   -- the call came through
   on_through : (moment : Moment) (turns : List PeerTurn) → p.moment ≡ moment → is_through news ≡ true → wrote_in news ≡ [] → came_in news ≡ [] →
@@ -252,8 +256,8 @@ module _ (p : Peer) (now : ℕ) (bodies replies : List (List ℕ)) (deed : Deed)
   on_through (Greeted answer) turns is h w c k m = on_rest (Greeted answer) turns is (inr refl) w c k m
   on_through (Idle since wait) turns is h w c k m = on_rest (Idle since wait) turns is (inr refl) w c k m
   on_through (Asked since question) turns is h w c k m = on_rest (Asked since question) turns is (inr refl) w c k m
-  on_through (Delivering items connected full useful) turns is h w c k m =
-      on_rest (Delivering items connected full useful) turns is (inr refl) w c k m
+  on_through (Delivering items connected full useful refused) turns is h w c k m =
+      on_rest (Delivering items connected full useful refused) turns is (inr refl) w c k m
 
   -- the connection is over
   on_over : (moment : Moment) (turns : List PeerTurn) → p.moment ≡ moment → is_through news ≡ false → wrote_in news ≡ [] → came_in news ≡ [] →
@@ -266,8 +270,8 @@ module _ (p : Peer) (now : ℕ) (bodies replies : List (List ℕ)) (deed : Deed)
       failed_now Cut turns m.failed (not_asked t turns [] m.none.0 w (append-nil (wrote_since turns) ∙ k.wrote) k.asked)
   on_over (Idle since wait) turns is h w c k m = became Close (Away since wait) turns refl m (inl (inr k))
   on_over (Asked since question) turns is h w c k m = failed_now Cut turns m.failed (inl (inr k))
-  on_over (Delivering items true full useful) turns is h w c k m = became Close (Delivering items false full useful) turns refl m (inr k)
-  on_over (Delivering items false full useful) turns is h w c k m = on_rest (Delivering items false full useful) turns is (inl h) w c k m
+  on_over (Delivering items true full useful refused) turns is h w c k m = became Close (Delivering items false full useful refused) turns refl m (inr k)
+  on_over (Delivering items false full useful refused) turns is h w c k m = on_rest (Delivering items false full useful refused) turns is (inl h) w c k m
 
   -- what came of an introduction was used
   on_introduced : (since : ℕ) (came : List ℕ) (question : QuestionState) (turns : List PeerTurn) → wrote_in news ≡ [] → came ≡ question.came ++ came_in news →
@@ -300,7 +304,7 @@ module _ (p : Peer) (now : ℕ) (bodies replies : List (List ℕ)) (deed : Deed)
   -- what came of an answer was used
   on_heard : (since : ℕ) (turns : List PeerTurn) → IsMet turns → (heard : Heard) → Uses p now bodies replies deed q since heard → Stays turns
   on_heard since turns k (More question) m = became Stay (Asked since question) turns refl m (inr k)
-  on_heard since turns k (Answer items full) m = became Stay (Delivering items true full false) turns refl m (inr k)
+  on_heard since turns k (Answer items full) m = became Stay (Delivering items true full false 0) turns refl m (inr k)
   on_heard since turns k (Other why) m = failed_now why turns m.failed (inl (inr k))
 
   on_question : (since : ℕ) (left came : List ℕ) (turns : List PeerTurn) → IsMet turns → HearsOf p now bodies replies deed q since left came → Stays turns
@@ -318,8 +322,8 @@ module _ (p : Peer) (now : ℕ) (bodies replies : List (List ℕ)) (deed : Deed)
       failed_now Unasked turns m.failed (not_asked t turns [] m.none.0 w (append-nil (wrote_since turns) ∙ k.wrote) k.asked)
   on_bytes bytes (Idle since wait) turns c is h w k m = failed_now Unasked turns m.failed (inl (inr k))
   on_bytes bytes (Asked since question) turns c is h w k m = on_question since question.left (question.came ++ bytes) turns k m
-  on_bytes bytes (Delivering items true full useful) turns c is h w k m = failed_now Unasked turns m.failed (inl (inr k))
-  on_bytes bytes (Delivering items false full useful) turns c is h w k m = rested (Delivering items false full useful) turns is m (inr k)
+  on_bytes bytes (Delivering items true full useful refused) turns c is h w k m = failed_now Unasked turns m.failed (inl (inr k))
+  on_bytes bytes (Delivering items false full useful refused) turns c is h w k m = rested (Delivering items false full useful refused) turns is m (inr k)
 
   on_came : (bytes : List ℕ) (turns : List PeerTurn) → came_in news ≡ bytes → is_through news ≡ false → wrote_in news ≡ [] → StandsBy p.moment turns →
       OnCame p now bodies replies deed q bytes p.moment → Stays turns
@@ -347,8 +351,8 @@ module _ (p : Peer) (now : ℕ) (bodies replies : List (List ℕ)) (deed : Deed)
   on_sent bytes (Calling since) turns w c h is k m = none_written bytes (Calling since) turns w c h is k m
   on_sent bytes (Greeted answer) turns w c h is k m = none_written bytes (Greeted answer) turns w c h is k m
   on_sent bytes (Idle since wait) turns w c h is k m = none_written bytes (Idle since wait) turns w c h is k m
-  on_sent bytes (Delivering items connected full useful) turns w c h is k m =
-      none_written bytes (Delivering items connected full useful) turns w c h is k m
+  on_sent bytes (Delivering items connected full useful refused) turns w c h is k m =
+      none_written bytes (Delivering items connected full useful refused) turns w c h is k m
 
 one_turn : (p : Peer) (now : ℕ) (news : News) (bodies replies : List (List ℕ)) (deed : Deed) (q : Peer) (turns : List PeerTurn) → StandsBy p.moment turns →
     Moves p now bodies replies deed q news → Stays p now bodies replies deed q news turns
@@ -369,7 +373,7 @@ seen (Greeting since question) turns k = inr (record { left = question.left; wro
 seen (Greeted answer) turns k = inr (record { left = []; wrote = append-nil (wrote_since turns) ∙ k.wrote; asked = inl k.asked })
 seen (Idle since wait) turns k = inl k
 seen (Asked since question) turns k = inl k
-seen (Delivering items connected full useful) turns k = inl k
+seen (Delivering items connected full useful refused) turns k = inl k
 
 pub only_the_met_are_asked : (every : ℕ) (turns : List PeerTurn) (q : Peer) → Went every turns q → IsMet (since_call turns) ⊎ IsNotAsked (since_call turns)
 only_the_met_are_asked every turns q went = seen q.moment (since_call turns) (all_stand every turns q went)

@@ -45,7 +45,7 @@ module _ (p : Peer) (now : ℕ) (bodies replies : List (List ℕ)) (deed : Deed)
   time_few (Idle since wait) (inr m) = none_few bodies m.1.none.0
   time_few (Asked since question) (inl m) = none_few bodies m.1.none.0
   time_few (Asked since question) (inr m) = none_few bodies m.1.none.0
-  time_few (Delivering items connected full useful) m =
+  time_few (Delivering items connected full useful refused) m =
       omega (arith, ap length m.asked, length-map (take most_a_turn items) delivery, take_few most_a_turn items)
 
   through_few : (moment : Moment) → OnThrough p now bodies replies deed q moment → length bodies ≤ most_a_turn
@@ -56,7 +56,7 @@ module _ (p : Peer) (now : ℕ) (bodies replies : List (List ℕ)) (deed : Deed)
   through_few (Away since wait) m = none_few bodies m.none.0
   through_few (Idle since wait) m = none_few bodies m.none.0
   through_few (Asked since question) m = none_few bodies m.none.0
-  through_few (Delivering items connected full useful) m = none_few bodies m.none.0
+  through_few (Delivering items connected full useful refused) m = none_few bodies m.none.0
 
   over_few : (moment : Moment) → OnOver p now bodies replies deed q moment → length bodies ≤ most_a_turn
   over_few (Away since wait) m = none_few bodies m.none.0
@@ -65,8 +65,8 @@ module _ (p : Peer) (now : ℕ) (bodies replies : List (List ℕ)) (deed : Deed)
   over_few (Greeted answer) m = none_few bodies m.none.0
   over_few (Idle since wait) m = none_few bodies m.none.0
   over_few (Asked since question) m = none_few bodies m.none.0
-  over_few (Delivering items true full useful) m = none_few bodies m.none.0
-  over_few (Delivering items false full useful) m = none_few bodies m.none.0
+  over_few (Delivering items true full useful refused) m = none_few bodies m.none.0
+  over_few (Delivering items false full useful refused) m = none_few bodies m.none.0
 
   uses_few : (since : ℕ) (heard : Heard) → Uses p now bodies replies deed q since heard → length bodies ≤ most_a_turn
   uses_few since (More question) m = none_few bodies m.none.0
@@ -93,8 +93,8 @@ module _ (p : Peer) (now : ℕ) (bodies replies : List (List ℕ)) (deed : Deed)
   bytes_few bytes (Greeted answer) m = none_few bodies m.none.0
   bytes_few bytes (Idle since wait) m = none_few bodies m.none.0
   bytes_few bytes (Asked since question) m = hears_few since question.left (question.came ++ bytes) m
-  bytes_few bytes (Delivering items true full useful) m = none_few bodies m.none.0
-  bytes_few bytes (Delivering items false full useful) m = none_few bodies m.none.0
+  bytes_few bytes (Delivering items true full useful refused) m = none_few bodies m.none.0
+  bytes_few bytes (Delivering items false full useful refused) m = none_few bodies m.none.0
 
   came_few : (bytes : List ℕ) (moment : Moment) → OnCame p now bodies replies deed q bytes moment → length bodies ≤ most_a_turn
   came_few [] moment m = none_few bodies m.none.0
@@ -107,7 +107,7 @@ module _ (p : Peer) (now : ℕ) (bodies replies : List (List ℕ)) (deed : Deed)
   sent_few bytes (Away since wait) m = none_few bodies m.rests.none.0
   sent_few bytes (Calling since) m = none_few bodies m.rests.none.0
   sent_few bytes (Idle since wait) m = none_few bodies m.rests.none.0
-  sent_few bytes (Delivering items connected full useful) m = none_few bodies m.rests.none.0
+  sent_few bytes (Delivering items connected full useful refused) m = none_few bodies m.rests.none.0
 
   few : (news : News) → Moves p now bodies replies deed q news → length bodies ≤ most_a_turn
   few Time m = time_few p.moment m
@@ -128,7 +128,7 @@ module _ (p : Peer) (now : ℕ) (bodies replies : List (List ℕ)) (deed : Deed)
   says_nothing (Idle since wait) some (inr m) = m.1
   says_nothing (Asked since question) some (inl m) = absurd (omega (arith, some, m.0))
   says_nothing (Asked since question) some (inr m) = m.1
-  says_nothing (Delivering items connected full useful) some m = absurd (omega (arith, some))
+  says_nothing (Delivering items connected full useful refused) some m = absurd (omega (arith, some))
 
 pub turns_are_short : TurnsAreShort
 turns_are_short p q t m = few p t.now t.bodies t.replies t.deed q t.news m

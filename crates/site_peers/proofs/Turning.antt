@@ -1,5 +1,5 @@
 -- What the peer's calls do, as turns.
-use Rattle.std.proofs.Common.{◌≡◌, ◌≢◌, ◌∙◌, ℕ, ◌-◌, Bool, true, false, List, [], ◌∷◌, map, take, drop, inl, inr, refl, ap, sym, subst}
+use Rattle.std.proofs.Common.{◌≡◌, ◌≢◌, ◌∙◌, ℕ, ◌+◌, ◌-◌, min, Bool, true, false, List, [], ◌∷◌, map, take, drop, inl, inr, refl, ap, sym, subst}
 use Rattle.std.specs.Prelude.{◌||◌}
 use Rattle.std.proofs.lemmas.Bool.{leb-true, leb-false}
 use Rattle.tardis_base.specs.declared.records.Item.{Item}
@@ -8,14 +8,14 @@ use Rattle.wire_lives.specs.declared.life_codes.TheConstants.{MET}
 use Rattle.site_peers.specs.declared.deeds.Deed.{Deed}
 use Rattle.site_peers.specs.declared.deeds.Deed.TheVariants.{Stay, Call}
 use Rattle.site_peers.specs.declared.deeds.Failure.{Failure}
-use Rattle.site_peers.specs.declared.deeds.Failure.TheVariants.{Late, NotMet}
+use Rattle.site_peers.specs.declared.deeds.Failure.TheVariants.{Late, NotMet, NoRoom}
 use Rattle.site_peers.specs.declared.moments.Moment.{Moment}
 use Rattle.site_peers.specs.declared.moments.Moment.TheVariants.{Away, Calling, Greeting, Greeted, Idle, Asked, Delivering}
 use Rattle.site_peers.specs.declared.peers.Peer.{Peer}
 use Rattle.site_peers.specs.Questions.{QuestionState}
-use Rattle.site_peers.specs.Asking.{delivery, any_applied, meeting, verdict}
+use Rattle.site_peers.specs.Asking.{delivery, any_applied, refused_of, meeting, verdict}
 use Rattle.site_peers.specs.Times.{patience, has_passed}
-use Rattle.site_peers.specs.Moves.{News, Time, Through, most_a_turn, at, with_left, Rests, Becomes, HasFailed, Breaks, Once, MayAsk, GoesBy, MayGreet, Moves, OnTime, OnThrough, is_called}
+use Rattle.site_peers.specs.Moves.{News, Time, Through, most_a_turn, most_refused, at, Leaves, Finishes, Rests, Becomes, HasFailed, Breaks, Once, MayAsk, GoesBy, MayGreet, Moves, OnTime, OnThrough, is_called}
 use Rattle.site_peers.specs.Turns.{AnswersFrom, Made, Turned}
 use Rattle.site_peers.proofs.Delivering.{answered_then}
 
@@ -84,7 +84,7 @@ module _ (p : Peer) (now : ℕ) (deed : Deed) (q : Peer) where
   on_through (Greeted answer) fails r = r
   on_through (Idle since wait) fails r = r
   on_through (Asked since question) fails r = r
-  on_through (Delivering items connected full useful) fails r = r
+  on_through (Delivering items connected full useful refused) fails r = r
 
   -- a call that came through, where there is none
   pub through_rests : (moment : Moment) → p.moment ≡ moment → is_called moment ≡ false → deed ≡ Stay → q ≡ p → Moves p now [] [] deed q Through
@@ -97,7 +97,7 @@ module _ (p : Peer) (now : ℕ) (deed : Deed) (q : Peer) where
   on_call (Greeted answer) holds may = absurd (cc)
   on_call (Idle since wait) holds may = absurd (cc)
   on_call (Asked since question) holds may = absurd (cc)
-  on_call (Delivering items connected full useful) holds may = absurd (cc)
+  on_call (Delivering items connected full useful refused) holds may = absurd (cc)
 
   -- a call came through
   pub through_greets : (moment : Moment) → p.moment ≡ moment → is_called moment ≡ true → MayGreet p now [] [] deed q → Moves p now [] [] deed q Through
@@ -163,25 +163,31 @@ idle_due p now bodies replies deed q since wait passed is t so may =
     subst (λ m. OnTime p now bodies replies deed q m) (sym is)
     (inl (leb-true wait (now - since) (sym t ∙ so), subst (λ x. MayAsk x now bodies replies deed q) (as_it_is p (Idle since wait) is) may))
 
-left_same : (p : Peer) (moment : Moment) (now : ℕ) (left : List Item) (connected full useful : Bool) →
-    with_left (at p moment) now left connected full useful ≡ with_left p now left connected full useful
-left_same p moment now [] connected full useful = refl
-left_same p moment now (item ∷ items) connected full useful = refl
+-- of the peer only what stays is used
+failed_same : (p : Peer) (moment : Moment) (now : ℕ) (deed : Deed) (q : Peer) (why : Failure) → HasFailed (at p moment) now deed q why → HasFailed p now deed q why
+failed_same p moment now deed q why f = record { deed_is = f.deed_is; next = f.next }
 
-pub items_delivered : {S : Type 0} (m : PlainMachine S) (from to : S → Type 0) (p : Peer) (now : ℕ) (q : Peer) (items left : List Item)
-    (connected full useful more any : Bool) → p.moment ≡ Delivering items connected full useful → left ≡ drop most_a_turn items →
-    (replies : List (List ℕ)) × (AnswersFrom m from to (map delivery (take most_a_turn items)) replies × (more ≡ any_applied replies)) →
-    any ≡ (useful || more) → q ≡ with_left (at p (Delivering left connected full any)) now left connected full any → Turned m from to p Time now Stay q
-items_delivered m from to p now q items left connected full useful more any is left_is (replies, (answered, more_is)) any_is next = record {
-  bodies = map delivery (take most_a_turn items);
-  replies = replies;
-  answered = answered;
-  does = subst (λ moment. OnTime p now (map delivery (take most_a_turn items)) replies Stay q moment) (sym is) (record {
-    asked = refl;
-    deed_is = refl;
-    next = next
-        ∙ (left_same p (Delivering left connected full any) now left connected full any
-        ∙ (ap (λ l. with_left p now l connected full any) left_is
-        ∙ ap (λ b. with_left p now (drop most_a_turn items) connected full b) (any_is ∙ ap (λ b. useful || b) more_is)));
-  });
-}
+left_same : (p : Peer) (moment : Moment) (now : ℕ) (deed : Deed) (q : Peer) (left : List Item) (connected full useful : Bool) (refused : ℕ) →
+    Leaves (at p moment) now deed q left connected full useful refused → Leaves p now deed q left connected full useful refused
+left_same p moment now deed q [] connected full useful refused (inl (none, goes)) = inl (none, record { deed_is = goes.deed_is; next = goes.next })
+left_same p moment now deed q [] connected full useful refused (inr (some, f)) = inr (some, failed_same p moment now deed q (NoRoom refused) f)
+left_same p moment now deed q (item ∷ items) connected full useful refused goes = record { deed_is = goes.deed_is; next = goes.next }
+
+pub items_delivered : {S : Type 0} (m : PlainMachine S) (from to : S → Type 0) (p : Peer) (now : ℕ) (deed : Deed) (q : Peer) (items left : List Item)
+    (connected full useful more any : Bool) (refused count sum : ℕ) → p.moment ≡ Delivering items connected full useful refused → left ≡ drop most_a_turn items →
+    (replies : List (List ℕ)) × (AnswersFrom m from to (map delivery (take most_a_turn items)) replies
+    × ((more ≡ any_applied replies) × (count ≡ refused_of replies))) → any ≡ (useful || more) → sum ≡ min (refused + count) most_refused →
+    Finishes (at p (Delivering left connected full any sum)) now deed q (Delivering left connected full any sum) → Turned m from to p Time now deed q
+items_delivered m from to p now deed q items left connected full useful more any refused count sum is left_is (replies, (answered, (more_is, count_is))) any_is
+    sum_is next = record {
+      bodies = map delivery (take most_a_turn items);
+      replies = replies;
+      answered = answered;
+      does = subst (λ moment. OnTime p now (map delivery (take most_a_turn items)) replies deed q moment) (sym is) (record {
+        asked = refl;
+        leaves = subst (λ l. Leaves p now deed q l connected full (useful || any_applied replies) (min (refused + refused_of replies) most_refused)) left_is
+            (subst (λ b. Leaves p now deed q left connected full b (min (refused + refused_of replies) most_refused)) (any_is ∙ ap (λ b. useful || b) more_is)
+            (subst (λ n. Leaves p now deed q left connected full any n) (sum_is ∙ ap (λ n. min (refused + n) most_refused) count_is)
+            (left_same p (Delivering left connected full any sum) now deed q left connected full any sum next)));
+      });
+    }

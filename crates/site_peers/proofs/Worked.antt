@@ -14,8 +14,9 @@ use Rattle.site_peers.specs.declared.introductions.Introduced.TheVariants.{Answe
 use Rattle.site_peers.specs.declared.deeds.Failure.TheVariants.{NotABatch, NotMet}
 use Rattle.site_peers.specs.declared.moments.Moment.TheVariants.{Away, Calling, Greeting, Greeted, Asked, Delivering}
 use Rattle.site_peers.specs.Asking.{stat, items_of, AreStatistics}
+use Rattle.site_peers.specs.Runs.{Went}
 use Rattle.site_peers.proofs.Telling.{first_byte}
-use Rattle.site_peers.specs.Rows.{batch, introduction, statistics, question, hello, applied, peer, ExchangeIsMade, ExchangeIsSeen, PeerIsMet, NotMetIsTold, NotMetIsToldBehind, GreetingLateIsTold, LongIntroductionIsTold}
+use Rattle.site_peers.specs.Rows.{batch, introduction, statistics, question, hello, applied, peer, until_answered, ExchangeIsMade, ExchangeIsSeen, RefusedIsMade, RefusedIsSeen, PeerIsMet, NotMetIsTold, NotMetIsToldBehind, GreetingLateIsTold, LongIntroductionIsTold}
 use Rattle.site_peers.specs.Rows.{NoBatchIsTold, WaitsAWhile, LateIsTold, LateAgainIsNotTold, FullGoesOnAtOnce, FullOfNoUseWaits}
 
 are_statistics : AreStatistics statistics (record { count = 3; floor = root; number = 0 } ∷ record { count = 0; floor = root; number = 0 } ∷ [])
@@ -25,69 +26,83 @@ are_statistics = record {
   states = refl;
 }
 
-pub exchange_is_made : ExchangeIsMade
+until_answered_goes : Went 5000 until_answered (peer 1000 (Delivering (items_of batch) true false false 0))
 unfolding frame
-exchange_is_made = (
-  peer 1000 (Delivering (items_of batch) true false false),
+until_answered_goes = (
+  peer 1000 (Asked 9 (record { left = []; came = [] })),
   (
-    peer 1000 (Asked 9 (record { left = []; came = [] })),
+    peer 1000 (Asked 9 (record { left = question; came = [] })),
     (
-      peer 1000 (Asked 9 (record { left = question; came = [] })),
+      peer 1000 (Greeted introduction),
       (
-        peer 1000 (Greeted introduction),
+        peer 1000 (Greeting 6 (record { left = []; came = [] })),
         (
-          peer 1000 (Greeting 6 (record { left = []; came = [] })),
+          peer 1000 (Greeting 6 (record { left = hello; came = [] })),
           (
-            peer 1000 (Greeting 6 (record { left = hello; came = [] })),
+            peer 1000 (Calling 5),
             (
-              peer 1000 (Calling 5),
-              (
-                peer 1000 (Away 0 0),
-                refl,
-                inl (omega arith, record { none = (refl, refl); deed_is = refl; next = refl }),
-              ),
-              inl (record { none = (refl, refl); deed_is = refl; next = refl }),
+              peer 1000 (Away 0 0),
+              refl,
+              inl (omega arith, record { none = (refl, refl); deed_is = refl; next = refl }),
             ),
-            record { left = []; front = refl; becomes = record { none = (refl, refl); deed_is = refl; next = refl } },
+            inl (record { none = (refl, refl); deed_is = refl; next = refl }),
           ),
-          record {
-            introduced = Introduces introduction;
-            is = (record { is_body = leb-true 21 longest_frame refl; whole = refl }, leb-true 21 64 refl);
-            learns = record { none = (refl, refl); deed_is = refl; next = refl };
-          },
+          record { left = []; front = refl; becomes = record { none = (refl, refl); deed_is = refl; next = refl } },
         ),
         record {
-          reply = 72 ∷ 0 ∷ [];
-          more = stat ∷ [];
-          told = statistics ∷ [];
-          asked = refl;
-          replied = refl;
-          goes = inl (
-            refl,
-            inl (record {
-              reply = statistics;
-              asked = refl;
-              replied = refl;
-              way = inl (record {
-                lines = record { count = 3; floor = root; number = 0 } ∷ record { count = 0; floor = root; number = 0 } ∷ [];
-                counts = are_statistics;
-                deed_is = refl;
-                next = refl;
-              });
-            }),
-          );
+          introduced = Introduces introduction;
+          is = (record { is_body = leb-true 21 longest_frame refl; whole = refl }, leb-true 21 64 refl);
+          learns = record { none = (refl, refl); deed_is = refl; next = refl };
         },
       ),
-      record { left = []; front = refl; becomes = record { none = (refl, refl); deed_is = refl; next = refl } },
+      record {
+        reply = 72 ∷ 0 ∷ [];
+        more = stat ∷ [];
+        told = statistics ∷ [];
+        asked = refl;
+        replied = refl;
+        goes = inl (
+          refl,
+          inl (record {
+            reply = statistics;
+            asked = refl;
+            replied = refl;
+            way = inl (record {
+              lines = record { count = 3; floor = root; number = 0 } ∷ record { count = 0; floor = root; number = 0 } ∷ [];
+              counts = are_statistics;
+              deed_is = refl;
+              next = refl;
+            });
+          }),
+        );
+      },
     ),
-    record {
-      heard = Answer (items_of batch) false;
-      is = (reply_spelling (BatchIs batch), batch, record { is_body = leb-true 54 longest_frame refl; whole = refl }, (refl, refl), refl, refl);
-      uses = record { none = (refl, refl); deed_is = refl; next = refl };
-    },
+    record { left = []; front = refl; becomes = record { none = (refl, refl); deed_is = refl; next = refl } },
   ),
-  record { asked = refl; deed_is = refl; next = refl },
+  record {
+    heard = Answer (items_of batch) false;
+    is = (reply_spelling (BatchIs batch), batch, record { is_body = leb-true 54 longest_frame refl; whole = refl }, (refl, refl), refl, refl);
+    uses = record { none = (refl, refl); deed_is = refl; next = refl };
+  },
 )
+
+pub exchange_is_made : ExchangeIsMade
+exchange_is_made = (
+  peer 1000 (Delivering (items_of batch) true false false 0),
+  until_answered_goes,
+  record { asked = refl; leaves = inl (refl, record { deed_is = refl; next = refl }) },
+)
+
+pub refused_is_made : RefusedIsMade
+refused_is_made = (
+  peer 1000 (Delivering (items_of batch) true false false 0),
+  until_answered_goes,
+  record { asked = refl; leaves = inr (omega arith, record { deed_is = refl; next = refl }) },
+)
+
+pub refused_is_seen : RefusedIsSeen
+unfolding frame
+refused_is_seen = refl
 
 pub exchange_is_seen : ExchangeIsSeen
 unfolding frame
@@ -157,7 +172,7 @@ pub late_again_is_not_told : LateAgainIsNotTold
 late_again_is_not_told = inl (omega arith, record { none = (refl, refl); failed = record { deed_is = refl; next = refl } })
 
 pub full_goes_on_at_once : FullGoesOnAtOnce
-full_goes_on_at_once = record { asked = refl; deed_is = refl; next = refl }
+full_goes_on_at_once = record { asked = refl; leaves = inl (refl, record { deed_is = refl; next = refl }) }
 
 pub full_of_no_use_waits : FullOfNoUseWaits
-full_of_no_use_waits = record { asked = refl; deed_is = refl; next = refl }
+full_of_no_use_waits = record { asked = refl; leaves = inl (refl, record { deed_is = refl; next = refl }) }

@@ -1,5 +1,5 @@
 -- What an exchange with a peer asks: of the own site by actor 0, and of the peer.
-use Rattle.std.specs.Prelude.{◌≡◌, ℕ, ◌==◌, Bool, false, List, [], ◌∷◌, ◌++◌, map, if◌then◌else◌}
+use Rattle.std.specs.Prelude.{◌≡◌, ℕ, ◌==◌, Bool, true, false, ◌&&◌, ◌||◌, List, [], ◌∷◌, ◌++◌, map, filter, length, if◌then◌else◌}
 use Rattle.std.specs.List.{list_any}
 use Rattle.tardis_base.specs.declared.records.Item.{Item}
 use Rattle.tardis_base.specs.declared.records.Item.TheVariants.{State, Promise}
@@ -7,14 +7,16 @@ use Rattle.tardis_base.specs.declared.records.Batch.{Batch}
 use Rattle.tardis_base.specs.declared.requests.Request.TheVariants.{Stat, Deliver, Pull}
 use Rattle.tardis_base.specs.declared.replies.SiteLine.{SiteLine}
 use Rattle.tardis_base.specs.declared.replies.Reply.{Reply}
-use Rattle.tardis_base.specs.declared.replies.Reply.TheVariants.{Stat as Statistics}
+use Rattle.tardis_base.specs.declared.replies.Refusal.TheVariants.{Full, PathFull}
+use Rattle.tardis_base.specs.declared.replies.Reply.TheVariants.{Stat as Statistics, Refused}
 use Rattle.tardis_base.specs.Plain.{Event}
 use Rattle.frame_cut.specs.Frames.{frame}
 use Rattle.wire_item.specs.Spellings.{u32_spelling}
 use Rattle.wire_lives.specs.declared.life_codes.TheConstants.{LIFE, MEET, MET}
 use Rattle.wire_talk.specs.Spellings.{request_spelling}
 use Rattle.wire_talk.specs.Spelled.{SpellsReply}
-use Rattle.wire_talk.specs.declared.reply_codes.TheConstants.{APPLIED}
+use Rattle.wire_talk.specs.declared.refusal_codes.TheConstants.{FULL, PATH_FULL}
+use Rattle.wire_talk.specs.declared.reply_codes.TheConstants.{APPLIED, REFUSED}
 use Rattle.site_peers.specs.declared.introductions.TheConstants.{NO_VERDICT}
 
 -- these requests, by actor 0
@@ -76,3 +78,22 @@ is_applied (code ∷ bytes) = code == APPLIED
 
 abbrev pub any_applied : List (List ℕ) → Bool
 any_applied replies = list_any is_applied replies
+
+-- the reply says that there is no room for the item: as many states are kept as may be, or it lies below too many branches
+abbrev pub is_no_room : Reply → Bool
+is_no_room (Refused (Full kept)) = true
+is_no_room (Refused (PathFull state pairs)) = true
+is_no_room _ = false
+
+-- so do its bytes, by the first two
+abbrev pub lacks_room : List ℕ → Bool
+lacks_room (code ∷ why ∷ bytes) = (code == REFUSED) && ((why == FULL) || (why == PATH_FULL))
+lacks_room _ = false
+
+-- the bytes of a reply say so where the reply does
+abbrev pub RoomIsRead : Type 0
+RoomIsRead = (bytes : List ℕ) (reply : Reply) → SpellsReply bytes reply → lacks_room bytes ≡ is_no_room reply
+
+-- how many of the replies say so
+abbrev pub refused_of : List (List ℕ) → ℕ
+refused_of replies = length (filter lacks_room replies)

@@ -1,12 +1,12 @@
 -- What a peer does of what the edge tells.
-use Rattle.std.specs.Prelude.{◌≡◌, ◌≢◌, ℕ, ◌+◌, ◌-◌, ◌<◌, ◌≤◌, ◌==◌, Bool, true, false, ◌&&◌, ◌||◌, not, Option, Some, None, List, [], ◌∷◌, ◌++◌, map, take, drop, ◌⊎◌, if◌then◌else◌}
+use Rattle.std.specs.Prelude.{◌≡◌, ◌≢◌, ℕ, ◌+◌, ◌-◌, ◌<◌, ◌≤◌, ◌==◌, Bool, true, false, ◌&&◌, ◌||◌, not, Option, Some, None, List, [], ◌∷◌, ◌++◌, map, take, drop, min, ◌⊎◌, if◌then◌else◌}
 use Rattle.tardis_base.specs.declared.records.Item.{Item}
 use Rattle.tardis_base.specs.declared.replies.SiteLine.{SiteLine}
 use Rattle.wire_lives.specs.declared.life_codes.TheConstants.{MET}
 use Rattle.site_peers.specs.declared.deeds.Deed.{Deed}
 use Rattle.site_peers.specs.declared.deeds.Deed.TheVariants.{Stay, Call, Close, Fail}
 use Rattle.site_peers.specs.declared.deeds.Failure.{Failure}
-use Rattle.site_peers.specs.declared.deeds.Failure.TheVariants.{NotReached, Late, Cut, LongFrame, NotMet, NotABatch, Unasked, NoCounts, NoMemory}
+use Rattle.site_peers.specs.declared.deeds.Failure.TheVariants.{NotReached, Late, Cut, LongFrame, NotMet, NotABatch, Unasked, NoCounts, NoMemory, NoRoom}
 use Rattle.site_peers.specs.declared.hearing.Heard.{Heard}
 use Rattle.site_peers.specs.declared.hearing.Heard.TheVariants.{More, Answer, Other}
 use Rattle.site_peers.specs.declared.introductions.Introduced.{Introduced}
@@ -16,7 +16,7 @@ use Rattle.site_peers.specs.declared.moments.Moment.TheVariants.{Away, Calling, 
 use Rattle.site_peers.specs.declared.peers.Peer.{Peer}
 use Rattle.site_peers.specs.declared.deliveries.TheConstants.{ITEMS_A_TURN}
 use Rattle.site_peers.specs.Questions.{QuestionState}
-use Rattle.site_peers.specs.Asking.{stat, delivery, AreStatistics, pull_frame, any_applied, greeting, meeting, verdict}
+use Rattle.site_peers.specs.Asking.{stat, delivery, AreStatistics, pull_frame, any_applied, refused_of, greeting, meeting, verdict}
 use Rattle.site_peers.specs.Hearing.{IsHeard}
 use Rattle.site_peers.specs.Introductions.{IsIntroduced}
 use Rattle.site_peers.specs.Times.{patience, first_pause, longer}
@@ -51,17 +51,14 @@ abbrev pub alone : (connected : Bool) → (now wait : ℕ) → Moment
 alone true now wait = Idle now wait
 alone false now wait = Away now wait
 
--- The peer once these items are left to be delivered. With none left the exchange is done: no failure counts any more, and the next one follows
--- at once where the batch was full and of some use, and else as often as exchanges are made.
-abbrev pub with_left : Peer → (now : ℕ) → List Item → (connected full useful : Bool) → Peer
-with_left p now [] connected full useful =
-    record { every = p.every; pause = first_pause; last = None; moment = alone connected now (if full && useful then 0 else p.every) }
-with_left p now (item ∷ items) connected full useful = at p (Delivering (item ∷ items) connected full useful)
+-- the peer behind an exchange that was done: no failure counts any more, and the next one follows at once or as often as exchanges are made
+abbrev pub done : Peer → (now : ℕ) → (connected at_once : Bool) → Peer
+done p now connected at_once =
+    record { every = p.every; pause = first_pause; last = None; moment = alone connected now (if at_once then 0 else p.every) }
 
--- the peer once no item is left to be delivered
-abbrev pub finished : Peer → (now : ℕ) → Moment → Peer
-finished p now (Delivering items connected full useful) = with_left p now items connected full useful
-finished p now _ = p
+-- so many refused items are counted, and no more
+abbrev pub most_refused : ℕ
+most_refused = 4294967295
 
 -- the kind of a failure: the peer is away, or something is wrong that somebody has to see to
 abbrev pub kind : Failure → ℕ
@@ -73,7 +70,8 @@ kind NotABatch = 2
 kind Unasked = 3
 kind NoCounts = 4
 kind NoMemory = 5
-kind (NotMet why) = 6 + why
+kind (NoRoom records) = 6
+kind (NotMet why) = 7 + why
 
 -- whether a failure is told: unless the exchange before it failed for one of its kind
 abbrev pub is_told : (last : Option Failure) → Failure → Bool
@@ -84,6 +82,27 @@ is_told (Some before) why = not (kind before == kind why)
 pub record HasFailed (p : Peer) (now : ℕ) (deed : Deed) (q : Peer) (why : Failure) : Type 0 where
   pub deed_is : deed ≡ Fail why (is_told p.last why)
   pub next : q ≡ failed p now why
+
+-- Items were delivered at this time, this is asked of the edge, and p became q.
+module _ (p : Peer) (now : ℕ) (deed : Deed) (q : Peer) where
+  -- nothing is asked of the edge
+  pub record GoesOn (next_is : Peer) : Type 0 where
+    pub deed_is : deed ≡ Stay
+    pub next : q ≡ next_is
+
+  -- The exchange is over. Where so many items were refused for want of room it failed, and where none was it is done.
+  abbrev pub Ends : (connected at_once : Bool) → (refused : ℕ) → Type 0
+  Ends connected at_once refused = ((refused ≡ 0) × GoesOn (done p now connected at_once)) ⊎ ((0 < refused) × HasFailed p now deed q (NoRoom refused))
+
+  -- With none of the items left the exchange is over, and the next one may follow at once where the batch was full and of some use.
+  abbrev pub Leaves : List Item → (connected full useful : Bool) → (refused : ℕ) → Type 0
+  Leaves [] connected full useful refused = Ends connected (full && useful) refused
+  Leaves (item ∷ items) connected full useful refused = GoesOn (at p (Delivering (item ∷ items) connected full useful refused))
+
+  -- so it is where items are delivered
+  abbrev pub Finishes : Moment → Type 0
+  Finishes (Delivering items connected full useful refused) = Leaves items connected full useful refused
+  Finishes _ = GoesOn p
 
 -- nothing was asked of the site
 abbrev pub AsksNothing : (bodies replies : List (List ℕ)) → Type 0
@@ -158,10 +177,10 @@ module _ (p : Peer) (now : ℕ) (bodies replies : List (List ℕ)) (deed : Deed)
   MayGreet = Becomes Stay (Greeting now (record { left = greeting; came = [] })) ⊎ Fails NoMemory
 
   -- the first items were delivered, in order, and the others are left
-  pub record Delivers (items : List Item) (connected full useful : Bool) : Type 0 where
+  pub record Delivers (items : List Item) (connected full useful : Bool) (refused : ℕ) : Type 0 where
     pub asked : bodies ≡ map delivery (take most_a_turn items)
-    pub deed_is : deed ≡ Stay
-    pub next : q ≡ with_left p now (drop most_a_turn items) connected full (useful || any_applied replies)
+    pub leaves : Leaves p now deed q (drop most_a_turn items) connected full (useful || any_applied replies)
+        (min (refused + refused_of replies) most_refused)
 
   -- what the time says
   abbrev pub OnTime : Moment → Type 0
@@ -171,7 +190,7 @@ module _ (p : Peer) (now : ℕ) (bodies replies : List (List ℕ)) (deed : Deed)
   OnTime (Greeted answer) = Meets p now bodies replies deed q answer
   OnTime (Idle since wait) = Once since wait (MayAsk p now bodies replies deed q)
   OnTime (Asked since question) = Once since patience (Fails Late)
-  OnTime (Delivering items connected full useful) = Delivers items connected full useful
+  OnTime (Delivering items connected full useful refused) = Delivers items connected full useful refused
 
   -- the call came through
   abbrev pub OnThrough : Moment → Type 0
@@ -187,8 +206,8 @@ module _ (p : Peer) (now : ℕ) (bodies replies : List (List ℕ)) (deed : Deed)
   OnOver (Greeted answer) = Fails Cut
   OnOver (Idle since wait) = Becomes Close (Away since wait)
   OnOver (Asked since question) = Fails Cut
-  OnOver (Delivering items true full useful) = Becomes Close (Delivering items false full useful)
-  OnOver (Delivering items false full useful) = Rests
+  OnOver (Delivering items true full useful refused) = Becomes Close (Delivering items false full useful refused)
+  OnOver (Delivering items false full useful refused) = Rests
 
   abbrev pub Learns : (since : ℕ) → Introduced → Type 0
   Learns since (MoreOfIt question) = Becomes Stay (Greeting since question)
@@ -208,7 +227,7 @@ module _ (p : Peer) (now : ℕ) (bodies replies : List (List ℕ)) (deed : Deed)
 
   abbrev pub Uses : (since : ℕ) → Heard → Type 0
   Uses since (More question) = Becomes Stay (Asked since question)
-  Uses since (Answer items full) = Becomes Stay (Delivering items true full false)
+  Uses since (Answer items full) = Becomes Stay (Delivering items true full false 0)
   Uses since (Other why) = Fails why
 
   -- all that came since the question is this
@@ -230,8 +249,8 @@ module _ (p : Peer) (now : ℕ) (bodies replies : List (List ℕ)) (deed : Deed)
   OnBytes bytes (Greeted answer) = Fails Unasked
   OnBytes bytes (Idle since wait) = Fails Unasked
   OnBytes bytes (Asked since question) = HearsOf since question.left (question.came ++ bytes)
-  OnBytes bytes (Delivering items true full useful) = Fails Unasked
-  OnBytes bytes (Delivering items false full useful) = Rests
+  OnBytes bytes (Delivering items true full useful refused) = Fails Unasked
+  OnBytes bytes (Delivering items false full useful refused) = Rests
 
   abbrev pub OnCame : List ℕ → Moment → Type 0
   OnCame [] moment = Rests
@@ -268,7 +287,7 @@ has_connection (Greeting since question) = true
 has_connection (Greeted answer) = true
 has_connection (Idle since wait) = true
 has_connection (Asked since question) = true
-has_connection (Delivering items connected full useful) = connected
+has_connection (Delivering items connected full useful refused) = connected
 has_connection _ = false
 
 abbrev pub is_called : Moment → Bool
@@ -296,4 +315,4 @@ rest_of (Greeting since question) now = patience - (now - since)
 rest_of (Greeted answer) now = 0
 rest_of (Idle since wait) now = wait - (now - since)
 rest_of (Asked since question) now = patience - (now - since)
-rest_of (Delivering items connected full useful) now = 0
+rest_of (Delivering items connected full useful refused) now = 0

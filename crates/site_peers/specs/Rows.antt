@@ -5,20 +5,21 @@ use Rattle.tardis_base.specs.declared.records.Write.TheVariants.{Delete}
 use Rattle.tardis_base.specs.declared.records.Record.{Record}
 use Rattle.tardis_base.specs.declared.records.Item.TheVariants.{State, Promise}
 use Rattle.tardis_base.specs.declared.records.Batch.{Batch}
-use Rattle.tardis_base.specs.declared.replies.Reply.TheVariants.{Stat as Statistics, Batch as BatchIs, Applied, Known}
+use Rattle.tardis_base.specs.declared.replies.Reply.TheVariants.{Stat as Statistics, Batch as BatchIs, Applied, Known, Refused}
+use Rattle.tardis_base.specs.declared.replies.Refusal.TheVariants.{Full}
 use Rattle.frame_cut.specs.Frames.{frame}
 use Rattle.wire_lives.specs.declared.life_codes.TheConstants.{ANOTHER_LIFE, NO_INTRODUCTION}
 use Rattle.wire_talk.specs.Spellings.{reply_spelling}
 use Rattle.site_peers.specs.declared.deeds.Deed.{Deed}
 use Rattle.site_peers.specs.declared.deeds.Deed.TheVariants.{Stay, Call, Fail}
 use Rattle.site_peers.specs.declared.deeds.Failure.{Failure}
-use Rattle.site_peers.specs.declared.deeds.Failure.TheVariants.{NotReached, Late, NotMet, NotABatch}
+use Rattle.site_peers.specs.declared.deeds.Failure.TheVariants.{NotReached, Late, NotMet, NotABatch, NoRoom}
 use Rattle.site_peers.specs.declared.moments.Moment.{Moment}
 use Rattle.site_peers.specs.declared.moments.Moment.TheVariants.{Away, Calling, Greeting, Greeted, Idle, Asked, Delivering}
 use Rattle.site_peers.specs.declared.peers.Peer.{Peer}
 use Rattle.site_peers.specs.Asking.{stat, delivery, items_of, meeting}
 use Rattle.site_peers.specs.Moves.{News, Time, Through, Came, Sent, Moves}
-use Rattle.site_peers.specs.Runs.{PeerTurn, Went, exchanges}
+use Rattle.site_peers.specs.Runs.{PeerTurn, Exchange, Went, exchanges}
 use Rattle.site_peers.specs.Connections.{since_call, IsMet}
 
 abbrev pub id_of : ℕ → List ℕ → Record
@@ -63,13 +64,11 @@ peer pause moment = record { every = 5000; pause = pause; last = None; moment = 
 abbrev pub behind : Failure → ℕ → Moment → Peer
 behind why pause moment = record { every = 5000; pause = pause; last = Some why; moment = moment }
 
--- An exchange, the newest turn first: the peer is called at 5, the call came through at 6, the question for its introduction was written, the
--- introduction came at 8, and at 9 the site met the peer and told its counts; the question was written, the answer came, and its three items were
--- delivered at 12, so that the next exchange is due at 5012.
-abbrev pub one_exchange : List PeerTurn
-one_exchange =
-    turn 12 Time (map delivery (items_of batch)) (applied ∷ applied ∷ applied ∷ []) Stay
-    ∷ turn 11 (Came answer) [] [] Stay
+-- The newest turn first: the peer is called at 5, the call came through at 6, the question for its introduction was written, the introduction came
+-- at 8, and at 9 the site met the peer and told its counts; the question was written, and the answer came.
+abbrev pub until_answered : List PeerTurn
+until_answered =
+    turn 11 (Came answer) [] [] Stay
     ∷ turn 9 (Sent question) [] [] Stay
     ∷ turn 9 Time (meeting introduction ∷ stat ∷ []) ((72 ∷ 0 ∷ []) ∷ statistics ∷ []) Stay
     ∷ turn 8 (Came (frame introduction)) [] [] Stay
@@ -77,6 +76,10 @@ one_exchange =
     ∷ turn 6 Through [] [] Stay
     ∷ turn 5 Time [] [] Call
     ∷ []
+
+-- its three items were delivered at 12, so that the next exchange is due at 5012
+abbrev pub one_exchange : List PeerTurn
+one_exchange = turn 12 Time (map delivery (items_of batch)) (applied ∷ applied ∷ applied ∷ []) Stay ∷ until_answered
 
 abbrev pub ExchangeIsMade : Type 0
 ExchangeIsMade = Went 5000 one_exchange (peer 1000 (Idle 12 5000))
@@ -88,8 +91,24 @@ ExchangeIsSeen = exchanges one_exchange ≡ record {
   wrote = question;
   came = answer;
   asked = delivery (State (id_of 1 (97 ∷ []))) ∷ delivery (State (id_of 2 (98 ∷ []))) ∷ delivery (Promise (record { site = 2; number = 1; floor = root; count = 2 })) ∷ [];
+  replied = applied ∷ applied ∷ applied ∷ [];
   failed = false;
 } ∷ []
+
+-- as many states are kept as may be, which are 4
+abbrev pub full : List ℕ
+full = reply_spelling (Refused (Full 4))
+
+-- Of the three items the site had no room for the second: all were delivered and the exchange failed, which is told. The peer is called again after 1
+-- second, and after a further failure after 2.
+abbrev pub one_refused : List PeerTurn
+one_refused = turn 12 Time (map delivery (items_of batch)) (applied ∷ full ∷ applied ∷ []) (Fail (NoRoom 1) true) ∷ until_answered
+
+abbrev pub RefusedIsMade : Type 0
+RefusedIsMade = Went 5000 one_refused (behind (NoRoom 1) 2000 (Away 12 1000))
+
+abbrev pub RefusedIsSeen : Type 0
+RefusedIsSeen = map (λ (e : Exchange). e.failed) (exchanges one_refused) ≡ true ∷ []
 
 -- the peer was met
 abbrev pub PeerIsMet : Type 0
@@ -138,7 +157,7 @@ LateAgainIsNotTold = Moves (behind NotReached 32000 (Calling 9)) 30009 [] [] (Fa
 
 -- the last item of a full batch is left, of which nothing was of use yet
 abbrev pub full_at_last : Peer
-full_at_last = peer 1000 (Delivering (State (id_of 1 (97 ∷ [])) ∷ []) true true false)
+full_at_last = peer 1000 (Delivering (State (id_of 1 (97 ∷ [])) ∷ []) true true false 0)
 
 -- where it is applied the next exchange follows at once, and where it was known it doesn't
 abbrev pub FullGoesOnAtOnce : Type 0

@@ -1,5 +1,5 @@
 -- Runs of a peer: its turns, and the exchanges that they made.
-use Rattle.std.specs.Prelude.{◌≡◌, ℕ, ◌<◌, ◌≤◌, Bool, true, false, ◌||◌, List, [], ◌∷◌, ◌++◌, length, map, bytes_eq, if◌then◌else◌, ◌⊎◌}
+use Rattle.std.specs.Prelude.{◌≡◌, ℕ, ◌<◌, ◌≤◌, Bool, true, false, ◌||◌, List, [], ◌∷◌, ◌++◌, length, map, bytes_eq, if◌then◌else◌, ◌⊎◌, min}
 use Rattle.std.specs.List.{list_any}
 use Rattle.tardis_base.specs.declared.records.Item.{Item}
 use Rattle.tardis_base.specs.declared.records.Batch.{Batch}
@@ -13,9 +13,9 @@ use Rattle.site_peers.specs.declared.moments.Moment.{Moment}
 use Rattle.site_peers.specs.declared.moments.Moment.TheVariants.{Away, Calling, Greeting, Greeted, Idle, Asked, Delivering}
 use Rattle.site_peers.specs.declared.peers.Peer.{Peer}
 use Rattle.site_peers.specs.Questions.{QuestionState}
-use Rattle.site_peers.specs.Asking.{by_nobody, stat, delivery, items_of, AreStatistics, pull_frame, meeting, met}
+use Rattle.site_peers.specs.Asking.{by_nobody, stat, delivery, items_of, AreStatistics, pull_frame, refused_of, meeting, met}
 use Rattle.site_peers.specs.Hearing.{StartsWith}
-use Rattle.site_peers.specs.Moves.{News, Time, Came, Sent, most_a_turn, fresh, Moves, Rests, rest_of}
+use Rattle.site_peers.specs.Moves.{News, Time, Came, Sent, most_a_turn, fresh, most_refused, Moves, Rests, rest_of}
 
 -- what a turn was: what the edge told at this time, the requests of actor 0 and their replies, and what was asked of the edge
 pub record PeerTurn : Type 0 where
@@ -31,12 +31,13 @@ Went every [] q = q ≡ fresh every
 Went every (t ∷ older) q = (p : Peer) × Went every older p × Moves p t.now t.bodies t.replies t.deed q t.news
 
 -- An exchange: the reply to Stat with which it began; and since then, until the next one or until the peer was called again, the bytes that were
--- written to the peer, those that came of it, the requests that were asked, and whether anything failed.
+-- written to the peer, those that came of it, the requests that were asked and their replies, and whether anything failed.
 pub record Exchange : Type 0 where
   pub statistics : List ℕ
   pub wrote : List ℕ
   pub came : List ℕ
   pub asked : List (List ℕ)
+  pub replied : List (List ℕ)
   pub failed : Bool
 
 abbrev pub wrote_in : News → List ℕ
@@ -58,6 +59,7 @@ more_of t e = record {
   wrote = e.wrote ++ wrote_in t.news;
   came = e.came ++ came_in t.news;
   asked = e.asked ++ t.bodies;
+  replied = e.replied ++ t.replies;
   failed = e.failed || is_failure t.deed;
 }
 
@@ -76,7 +78,7 @@ told_of _ _ = []
 
 -- the exchange that begins with a turn
 abbrev pub begun_by : PeerTurn → Exchange
-begun_by t = record { statistics = told_of t.bodies t.replies; wrote = []; came = []; asked = []; failed = is_failure t.deed }
+begun_by t = record { statistics = told_of t.bodies t.replies; wrote = []; came = []; asked = []; replied = []; failed = is_failure t.deed }
 
 -- an exchange began since the peer was last called
 abbrev pub within : List PeerTurn → Bool
@@ -122,12 +124,12 @@ pub record HadNoAnswer (e : Exchange) : Type 0 where
   pub question : IsQuestion e unwritten
   pub asked : e.asked ≡ []
 
--- there was an answer: all its items were delivered, unless something failed
+-- there was an answer: all its items were delivered, and none was refused for want of room, unless something failed
 pub record HadAnswer (e : Exchange) : Type 0 where
   pub question : IsQuestion e []
   pub left : List Item
   pub answered : IsAnswered e left
-  pub all : (left ≡ []) ⊎ (e.failed ≡ true)
+  pub all : ((left ≡ []) × (refused_of e.replied ≡ 0)) ⊎ (e.failed ≡ true)
 
 -- how an exchange is over
 abbrev pub IsOver : Exchange → Type 0
@@ -142,18 +144,20 @@ pub record IsAsking (e : Exchange) (question : QuestionState) : Type 0 where
   pub asks : IsQuestion e question.left
   pub came : e.came ≡ question.came
   pub asked : e.asked ≡ []
+  pub replied : e.replied ≡ []
 
--- these items of its answer are left
-pub record IsDelivered (e : Exchange) (left : List Item) : Type 0 where
+-- these items of its answer are left, and so many were refused for want of room
+pub record IsDelivered (e : Exchange) (left : List Item) (refused : ℕ) : Type 0 where
   pub question : IsQuestion e []
   pub answered : IsAnswered e left
+  pub counted : refused ≡ min (refused_of e.replied) most_refused
 
 -- what the peer stands at, with its exchanges
 abbrev pub Fit : Moment → List Exchange → Type 0
 Fit (Asked since question) [] = ⊥
 Fit (Asked since question) (e ∷ es) = IsAsking e question × AreOver es
-Fit (Delivering items connected full useful) [] = ⊥
-Fit (Delivering items connected full useful) (e ∷ es) = IsDelivered e items × AreOver es
+Fit (Delivering items connected full useful refused) [] = ⊥
+Fit (Delivering items connected full useful refused) (e ∷ es) = IsDelivered e items refused × AreOver es
 Fit (Away since wait) es = AreOver es
 Fit (Calling since) es = AreOver es
 Fit (Greeting since question) es = AreOver es
@@ -161,7 +165,7 @@ Fit (Greeted answer) es = AreOver es
 Fit (Idle since wait) es = AreOver es
 
 -- Whatever turns a peer made, its exchanges are one after another: each asked by the counts that the site told when it began, and delivered the
--- items of the answer to that, in order and each once.
+-- items of the answer to that, in order and each once; and one of which an item was refused for want of room failed.
 abbrev pub ExchangesAreWhole : Type 0
 ExchangesAreWhole = (every : ℕ) (turns : List PeerTurn) (q : Peer) → Went every turns q → Fit q.moment (exchanges turns)
 

@@ -1,12 +1,13 @@
 //! Requests of actor 0.
 
 ghost use Rattle.std.specs.Prelude.{◌≡◌, ◌||◌, [], ◌∷◌};
-ghost use Rattle.site_peers.specs.Asking.{is_applied as applies};
+ghost use Rattle.site_peers.specs.Asking.{is_applied as applies, lacks_room as finds_no_room};
 ghost use Rattle.site_peers.specs.Turns.{AnswersFrom};
 
 use rest_machine::Settling;
 use tardis_base::{NO_MEMORY, NoMemory, ReplyBuf};
-use wire_talk::reply_codes::APPLIED;
+use wire_talk::refusal_codes::{FULL, PATH_FULL};
+use wire_talk::reply_codes::{APPLIED, REFUSED};
 
 /// The actor of all that isn't asked by a session.
 const NOBODY: u16 = 0;
@@ -29,6 +30,16 @@ pub(crate) fn is_applied(reply: &[u8]) -> bool
     match reply {
         [code, ..] => *code == APPLIED,
         [] => false,
+    }
+}
+
+/// Whether a reply says that there is no room for an item.
+pub(crate) fn lacks_room(reply: &[u8]) -> bool
+    ensures { result ≡ finds_no_room reply.now }
+{
+    match reply {
+        [code, why, ..] => *code == REFUSED && (*why == FULL || *why == PATH_FULL),
+        _ => false,
     }
 }
 

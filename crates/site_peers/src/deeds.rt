@@ -38,6 +38,8 @@ pub enum Failure {
     NoCounts,
     /// There was no memory for a question, or for the batch.
     NoMemory,
+    /// The own site refused so many of the peer's records for want of room (`full`, `pathfull`); all others were delivered.
+    NoRoom { records: u32 },
 }
 
 impl Failure {
@@ -52,7 +54,8 @@ impl Failure {
             Failure::Unasked => 3,
             Failure::NoCounts => 4,
             Failure::NoMemory => 5,
-            Failure::NotMet { why } => 6 + why as u32,
+            Failure::NoRoom { .. } => 6,
+            Failure::NotMet { why } => 7 + why as u32,
         }
     }
 

@@ -5,10 +5,10 @@ ghost use Rattle.tardis_base.specs.Sizes.{longest_frame};
 ghost use Rattle.tardis_base.specs.declared.records.Item.{Item};
 ghost use Rattle.tardis_base.specs.Valid.{is_record};
 ghost use Rattle.wire_item.specs.Valid.{is_batch, is_consent};
-ghost use Rattle.site_peers.specs.Asking.{items_of, delivery, any_applied};
+ghost use Rattle.site_peers.specs.Asking.{items_of, delivery, any_applied, refused_of};
 ghost use Rattle.site_peers.specs.Turns.{AnswersFrom};
 
-use crate::asks::{ask, either, is_applied};
+use crate::asks::{ask, either, is_applied, lacks_room};
 use item_bytes::{write_consent, write_record};
 use rest_machine::Settling;
 use std::marker::Model;
@@ -18,6 +18,13 @@ use wire_talk::request_codes::DELIVER;
 
 /// At most so many items of one peer are delivered in a turn.
 pub const ITEMS_A_TURN: usize = 64;
+
+/// What came of items that were delivered: whether one was applied, and how many were refused for want of room.
+#[derive(Clone, Copy)]
+pub(crate) struct Outcome {
+    pub(crate) useful: bool,
+    pub(crate) refused: u32,
+}
 
 /// The items of an answer that are left to be delivered. It is seen as these.
 #[derive(Drop)]
@@ -67,25 +74,28 @@ impl Delivery {
         self.len() == 0
     }
 
-    /// Delivers the first items that are left, in order and each once, up to 64. Answers whether one was applied.
+    /// Delivers the first items that are left, in order and each once, up to 64, and answers what came of them.
     pub(crate) fn deliver_some<M: Settling>(
         &mut self,
         machine: &mut M,
         reply: &mut ReplyBuf,
-    ) -> bool
+    ) -> Outcome
         ensures left { self.new ≡ drop ITEMS_A_TURN self.old }
         ensures delivered { (replies : List (List ℕ)) × (AnswersFrom M.plain (M.stands machine.old) (M.stands machine.new)
-            (map delivery (take ITEMS_A_TURN self.old)) replies × (result ≡ any_applied replies)) }
+            (map delivery (take ITEMS_A_TURN self.old)) replies × ((result.useful ≡ any_applied replies) × (result.refused ≡ refused_of replies))) }
         ensures opening { M.opening machine.new ≡ M.opening machine.old }
     {
         let count = self.len().min(ITEMS_A_TURN);
         let mut useful = false;
+        let mut refused: u32 = 0;
         for _item in 0..count {
             self.deliver_one(machine, reply);
             let applied = is_applied(reply.bytes());
             useful = either(useful, applied);
+            let more = lacks_room(reply.bytes());
+            refused += more as u32;
         }
-        useful
+        Outcome { useful, refused }
     }
 
     /// Delivers the first item that is left.

@@ -39,12 +39,13 @@ pub enum Moment {
         question: Question,
     },
     /// The items of its answer are being delivered. `connected` says whether it still has a connection, `full` whether the batch may have left
-    /// records out, and `useful` whether an item of it was applied.
+    /// records out, `useful` whether an item of it was applied, and `refused` how many were refused for want of room.
     Delivering {
         items: Delivery,
         connected: bool,
         full: bool,
         useful: bool,
+        refused: u32,
     },
 }
 

@@ -2,7 +2,7 @@
 
 ghost use Rattle.std.specs.Prelude.{◌≡◌, ◌*◌, ◌≤◌, ◌++◌, [], length, take};
 ghost use Rattle.tardis_base.specs.Sizes.{piece};
-ghost use Rattle.site_peers.specs.Moves.{News, Moves, Breaks, HasFailed, GoesBy, GreetsOf, MayAsk, MayGreet, HearsOf, Once, finished, fresh, waiting, listens, rest_of};
+ghost use Rattle.site_peers.specs.Moves.{News, Moves, Breaks, HasFailed, GoesBy, GreetsOf, MayAsk, MayGreet, HearsOf, Once, Finishes, fresh, waiting, listens, rest_of};
 ghost use Rattle.site_peers.specs.Asking.{verdict as verdict_of};
 ghost use Rattle.site_peers.specs.Times.{patience};
 ghost use Rattle.site_peers.specs.Turns.{Turned, Made};
@@ -94,11 +94,16 @@ impl Peer {
                 let since = *since;
                 self.give_up(now, since)
             }
-            Moment::Delivering { items, useful, .. } => {
+            Moment::Delivering {
+                items,
+                useful,
+                refused,
+                ..
+            } => {
                 let more = items.deliver_some(machine, reply);
-                *useful = either(*useful, more);
-                self.finish(now);
-                Deed::Stay
+                *useful = either(*useful, more.useful);
+                *refused = refused.saturating_add(more.refused);
+                self.finish(now)
             }
         }
     }
@@ -211,6 +216,7 @@ impl Peer {
                     connected: true,
                     full,
                     useful: false,
+                    refused: 0,
                 }
             }
             Heard::Other(why) => return self.fail(now, why),
@@ -292,26 +298,32 @@ impl Peer {
         }
     }
 
-    /// Ends the exchange, where no items are left.
-    fn finish(&mut self, now: u64)
-        ensures { self.new ≡ finished self.old now self.old.moment }
+    /// Ends the exchange, where no items are left. It failed where any was refused for want of room.
+    fn finish(&mut self, now: u64) -> Deed
+        ensures { Finishes self.old now result self.new self.old.moment }
     {
         let Moment::Delivering {
             items,
             connected,
             full,
             useful,
+            refused,
         } = &self.moment
         else {
-            return;
+            return Deed::Stay;
         };
         if !items.is_empty() {
-            return;
+            return Deed::Stay;
+        }
+        if *refused > 0 {
+            let records = *refused;
+            return self.fail(now, Failure::NoRoom { records });
         }
         let wait = wait_after(*full && *useful, self.every);
         self.moment = Moment::alone(*connected, now, wait);
         self.pause = FIRST_PAUSE;
         self.last = None;
+        Deed::Stay
     }
 
     /// Gives up what is waited for, where it is late.

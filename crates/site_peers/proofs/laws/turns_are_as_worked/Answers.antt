@@ -1,4 +1,4 @@
-use Rattle.site_peers.proofs.Worked.{exchange_is_made, exchange_is_seen, peer_is_met, not_met_is_told, not_met_is_told_behind, greeting_late_is_told, long_introduction_is_told, no_batch_is_told, waits_a_while, late_is_told, late_again_is_not_told, full_goes_on_at_once, full_of_no_use_waits}
+use Rattle.site_peers.proofs.Worked.{exchange_is_made, exchange_is_seen, refused_is_made, refused_is_seen, peer_is_met, not_met_is_told, not_met_is_told_behind, greeting_late_is_told, long_introduction_is_told, no_batch_is_told, waits_a_while, late_is_told, late_again_is_not_told, full_goes_on_at_once, full_of_no_use_waits}
 use Rattle.site_peers.proofs.laws.turns_are_as_worked.Goals as goal
 
 pub returns-clause-made : goal.returns-clause-made
@@ -39,3 +39,9 @@ returns-clause-greeting_late c = greeting_late_is_told
 
 pub returns-clause-too_long : goal.returns-clause-too_long
 returns-clause-too_long c = long_introduction_is_told
+
+pub returns-clause-refused : goal.returns-clause-refused
+returns-clause-refused c = refused_is_made
+
+pub returns-clause-refused_seen : goal.returns-clause-refused_seen
+returns-clause-refused_seen c = refused_is_seen

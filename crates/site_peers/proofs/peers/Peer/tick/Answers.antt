@@ -49,8 +49,9 @@ returns-in-Asked-clause-turned g c =
 pub returns-in-Delivering-clause-turned : goal.returns-in-Delivering-clause-turned
 returns-in-Delivering-clause-turned g c =
     items_delivered g.M.Settling.plain (g.M.Settling.stands c.args.machine.now) (g.M.Settling.stands c.deliver_some-more.new.machine) c.args.self.now c.args.now
-    c.finish.new.self _ c.deliver_some-more.new.self _ _ _ c.deliver_some-more.result c.either.result c.in-Delivering.is c.deliver_some-more.ensures.left
-    c.deliver_some-more.ensures.delivered c.either.ensures c.finish.ensures
+    c.finish.result c.finish.new.self _ c.deliver_some-more.new.self _ _ _ c.deliver_some-more.result.useful c.either.result _ c.deliver_some-more.result.refused
+    c.saturating_add.result c.in-Delivering.is c.deliver_some-more.ensures.left c.deliver_some-more.ensures.delivered c.either.ensures c.saturating_add.ensures
+    c.finish.ensures
 
 pub returns-in-Greeting-clause-turned : goal.returns-in-Greeting-clause-turned
 returns-in-Greeting-clause-turned g c =
