@@ -15,3 +15,4 @@ mod RankLaws
 mod LeafCounts
 mod PairLaws
 pub mod JoinLaws
+mod ReasonLaws

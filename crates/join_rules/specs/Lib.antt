@@ -11,3 +11,5 @@ pub mod Joints
 pub mod Joins
 pub mod Searches
 pub mod Laws
+pub mod Reasons
+pub mod Unsettled

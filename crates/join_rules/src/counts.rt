@@ -65,7 +65,7 @@ fn base_number(base: Base<'_>) -> Option<i64>
 }
 
 /// The number that is written; a deletion is 0.
-fn number_of(write: &Write) -> Option<i64>
+pub(crate) fn number_of(write: &Write) -> Option<i64>
     ensures { result ≡ number_of write.now }
 {
     match write {

@@ -98,7 +98,7 @@ fn first_settled(
 }
 
 /// The leaves that are looked at.
-fn last_ones(leaves: &[Slot]) -> &[Slot]
+pub(crate) fn last_ones(leaves: &[Slot]) -> &[Slot]
     ensures { result.now ≡ drop (length leaves.now - MOST_LEAVES) leaves.now }
 {
     &leaves[leaves.len().saturating_sub(MOST_LEAVES)..]
@@ -147,7 +147,7 @@ fn joint_of(
 }
 
 /// Whether the state of the first slot has the lesser id.
-fn comes_first(dag: &StateDag, a: Slot, b: Slot) -> bool
+pub(crate) fn comes_first(dag: &StateDag, a: Slot, b: Slot) -> bool
     requires a { IsTrue (is_slot dag.now a) }
     requires b { IsTrue (is_slot dag.now b) }
     ensures { (x y : StateId) → id_at dag.now a ≡ Some x → id_at dag.now b ≡ Some y → result ≡ is_before x y }

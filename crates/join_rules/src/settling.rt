@@ -61,7 +61,12 @@ pub fn settle(
 }
 
 /// The slot of the state where the two part, if that is one alone.
-fn parting(alloc: Global, dag: &StateDag, a: Slot, b: Slot) -> Result<Option<Slot>, NoMemory>
+pub(crate) fn parting(
+    alloc: Global,
+    dag: &StateDag,
+    a: Slot,
+    b: Slot,
+) -> Result<Option<Slot>, NoMemory>
     requires a { IsTrue (is_slot dag.now a) }
     requires b { IsTrue (is_slot dag.now b) }
     ensures slot { IfOk result (λ slot. IfSome slot (λ s. IsTrue (is_slot dag.now s))) }
@@ -172,7 +177,7 @@ fn merged_reads(
 }
 
 /// The base that was read.
-fn base_of(is_known: bool, began: &Option<(StateId, Write)>) -> Base<'_>
+pub(crate) fn base_of(is_known: bool, began: &Option<(StateId, Write)>) -> Base<'_>
     ensures { base_of result ≡ (if is_known then written_base began.now else Unknown) }
 {
     if !is_known {
@@ -185,7 +190,7 @@ fn base_of(is_known: bool, began: &Option<(StateId, Write)>) -> Base<'_>
 }
 
 /// What is read of the key where the two states part; nothing where that isn't known.
-fn began(
+pub(crate) fn began(
     store: &RecordStore,
     parting: Option<Slot>,
     key: &Key,
@@ -200,7 +205,11 @@ fn began(
 }
 
 /// A copy of what is read of the key at the state of this slot.
-fn read(store: &RecordStore, slot: Slot, key: &Key) -> Result<Option<(StateId, Write)>, NoMemory>
+pub(crate) fn read(
+    store: &RecordStore,
+    slot: Slot,
+    key: &Key,
+) -> Result<Option<(StateId, Write)>, NoMemory>
     requires { IsTrue (is_slot store.now.table slot) }
     ensures { (rs : List Record) (ks : List StateId) → StoreStands store.now rs ks → (x : StateId) → id_at store.now.table slot ≡ Some x
         → IfOk result (λ copy. copy ≡ read rs key.now x) }
