@@ -59,6 +59,11 @@ def sessions_full(count):
     return b"\x15\x04" + struct.pack(">H", count)
 
 
+def connections_full(count):
+    """The refusal of the edge that there are as many connections as there may be."""
+    return b"\x15\x1e" + struct.pack(">I", count)
+
+
 def full(count):
     """Refused, Full."""
     return b"\x15\x14" + struct.pack(">I", count)
@@ -631,12 +636,12 @@ class Connections:
         for connection in held:
             self.assertEqual(ask(connection, OPEN), [OPENED])
         for _ in range(3):
-            self.assertEqual(read_to_end(self.connect()), frame(sessions_full(256)))
+            self.assertEqual(read_to_end(self.connect()), frame(connections_full(256)))
         self.assertEqual(ask(held[9], BEGIN), [BEGUN])
         held[100].close()
         self.assertEqual(ask(held[10], BEGIN), [BEGUN])
         self.assertEqual(ask(self.connect(), OPEN), [OPENED])
-        self.assertEqual(read_to_end(self.connect()), frame(sessions_full(256)))
+        self.assertEqual(read_to_end(self.connect()), frame(connections_full(256)))
 
     def test_three_thousand_connections_one_after_another(self):
         for place in range(3000):
@@ -689,7 +694,7 @@ class Capacity(unittest.TestCase):
         held = [self.connect(server), self.connect(server)]
         for connection in held:
             self.assertEqual(ask(connection, OPEN), [OPENED])
-        self.assertEqual(read_to_end(self.connect(server)), frame(sessions_full(2)))
+        self.assertEqual(read_to_end(self.connect(server)), frame(connections_full(2)))
         self.assertEqual(ask(held[1], BEGIN), [BEGUN])
         held[0].close()
         self.assertEqual(ask(held[1], ABORT), [DONE])
@@ -791,7 +796,7 @@ class Capacity(unittest.TestCase):
         for connection in held[:699]:
             self.assertEqual(ask(connection, OPEN), [OPENED])
         self.assertEqual(ask(held[699], OPEN), [sessions_full(699)])
-        self.assertEqual(read_to_end(self.connect(server)), frame(sessions_full(700)))
+        self.assertEqual(read_to_end(self.connect(server)), frame(connections_full(700)))
         for connection in held[650:699]:
             connection.close()
         self.assertEqual(ask(held[649], BEGIN), [BEGUN])

@@ -82,7 +82,7 @@ nothing_said = record { is_full = false; is_idle = false; is_held = false }
 
 -- What a hub keeps of it: how many replies that count aren't paid off by an upkeep; what the last reply of the newest upkeep says; and
 -- whether the edge had a turn since one that may have left more. And of the edge's clock: what it shows; what it showed when the newest
--- upkeep was made; since when the last replies of upkeeps say `held` without a break; and how many waits had passed when the newest was asked.
+-- upkeep was made; whether a wait runs, and since when; and how many waits had passed when the newest was asked.
 pub record TallyState : Type 0 where
   pub rule : Option UpkeepRule
   pub count : ℕ
@@ -90,11 +90,12 @@ pub record TallyState : Type 0 where
   pub backlog : Bool
   pub clock : ℕ
   pub made : ℕ
+  pub runs : Bool
   pub since : ℕ
   pub waited : ℕ
 
 abbrev pub first_tally : Option UpkeepRule → TallyState
-first_tally rule = record { rule = rule; count = 0; last = nothing_said; backlog = false; clock = 0; made = 0; since = 0; waited = 0 }
+first_tally rule = record { rule = rule; count = 0; last = nothing_said; backlog = false; clock = 0; made = 0; runs = false; since = 0; waited = 0 }
 
 abbrev pub counted_by : Option UpkeepRule → List (List ℕ) → ℕ
 counted_by None replies = 0
@@ -108,6 +109,7 @@ with_count tally count = record {
   backlog = tally.backlog;
   clock = tally.clock;
   made = tally.made;
+  runs = tally.runs;
   since = tally.since;
   waited = tally.waited;
 }
@@ -125,6 +127,7 @@ timed tally now = record {
   backlog = tally.backlog;
   clock = max tally.clock now;
   made = tally.made;
+  runs = tally.runs;
   since = tally.since;
   waited = tally.waited;
 }
@@ -138,6 +141,7 @@ passed tally = record {
   backlog = tally.last.is_full;
   clock = tally.clock;
   made = tally.made;
+  runs = tally.runs;
   since = tally.since;
   waited = tally.waited;
 }
@@ -147,13 +151,17 @@ abbrev pub waits_in : Option UpkeepRule → (passed : ℕ) → ℕ
 waits_in None passed = 0
 waits_in (Some rule) passed = min (length rule.late) (passed / rule.wait)
 
--- how many waits have passed: while `held` lasts as many as since it began, and else as many as when the newest upkeep was asked
+-- how many waits have passed: while one runs as many as since it began, and else as many as when the newest upkeep was asked
 abbrev pub waited_by : TallyState → ℕ
-waited_by tally = if tally.last.is_held then waits_in tally.rule (tally.clock - tally.since) else tally.waited
+waited_by tally = if tally.runs then waits_in tally.rule (tally.clock - tally.since) else tally.waited
 
--- Those waits still count behind an upkeep that says `held` again, or that there may be more to do.
-abbrev pub goes_on : (old new : LastReply) → Bool
-goes_on old new = if new.is_held then old.is_held else new.is_full
+-- A wait runs behind `held`; and where it ran it goes on behind what was done without a late request.
+abbrev pub runs_behind : TallyState → LastReply → Bool
+runs_behind tally last = if last.is_held then true else last.is_full && (tally.runs && waited_by tally == 0)
+
+-- The waits that have passed still count where a wait goes on, and where there may be more to do.
+abbrev pub goes_on : TallyState → LastReply → Bool
+goes_on tally last = if last.is_held then tally.runs else last.is_full
 
 abbrev pub pays_of : Option UpkeepRule → ℕ
 pays_of None = 0
@@ -168,8 +176,9 @@ paid tally last = record {
   backlog = false;
   clock = tally.clock;
   made = tally.clock;
-  since = if tally.last.is_held then tally.since else tally.clock;
-  waited = if goes_on tally.last last then waited_by tally else 0;
+  runs = runs_behind tally last;
+  since = if tally.runs then tally.since else tally.clock;
+  waited = if goes_on tally last then waited_by tally else 0;
 }
 
 -- nothing could be done, or it is somebody else's for now

@@ -1,7 +1,7 @@
 //! Upkeep of a machine: requests that a hub asks itself, as often as enough was answered, or has waited long enough.
 
 ghost use Rattle.std.specs.Prelude.{◌≡◌, ◌<◌, ◌≤◌, ◌+◌, [], ◌∷◌, false, nat_le, map, option_map, length, min, nat_lt, IfNone, IfSome};
-ghost use Rattle.hub.specs.Upkeeps.{rule_of, wanted, first_tally, is_counted, noted, timed, passed, paid, said, nothing_said, puts_off, goes_on, is_soon, pays_of, waits_in, waited_by, late_of, asked, due_by};
+ghost use Rattle.hub.specs.Upkeeps.{rule_of, wanted, first_tally, is_counted, noted, timed, passed, paid, said, nothing_said, puts_off, runs_behind, goes_on, is_soon, pays_of, waits_in, waited_by, late_of, asked, due_by};
 ghost use Rattle.hub.specs.declared.ports.Seen.TheVariants.{NotedReply};
 ghost use Rattle.hub.specs.Telling.{Tells};
 ghost use Rattle.hub.specs.Answering.{Asked};
@@ -27,9 +27,10 @@ use tardis_base::{NO_MEMORY, NoMemory, ReplyBuf};
 /// bytes, that reply says both: the requests are asked again after the next turn, as where there may be more to do.
 ///
 /// Where the last reply is `held`, there is something to do, which is somebody else's for now. The next upkeep is due as behind `idle`.
-/// While upkeep after upkeep ends so, a wait runs from the first of them on. As often as it has lasted `wait` milliseconds more, an
-/// upkeep is due, and from then on the next of `late` is asked in place of the last request; the last of `late` stays. A reply `full`
-/// behind it leaves that as it is, so that all there is to do may be done. Any other reply ends the wait.
+/// A wait runs from then on. As often as it has lasted `wait` milliseconds more, an upkeep is due, and from then on the next of `late` is
+/// asked in place of the last request; the last of `late` stays. What is done meanwhile without a late request doesn't end the wait: behind
+/// `full` it goes on. Once a late request was answered `full`, it is asked again until there is nothing more to do, and then the wait is
+/// over. So it is behind any other reply.
 ///
 /// Only the offers of peers tell the time, so without peers no time passes. The clock shows the latest time that was told; an earlier one
 /// changes nothing. Bytes that the machine never replies make no use of `idle`, `held` or `full`: an empty reply, for one, where each of its
@@ -87,23 +88,12 @@ impl LastReply {
     {
         self.is_idle || self.is_held
     }
-
-    /// Whether the waits that have passed still count behind an upkeep that says this, where the one before it said that.
-    fn goes_on(self, old: LastReply) -> bool
-        ensures { result ≡ goes_on old self }
-    {
-        if self.is_held {
-            old.is_held
-        } else {
-            self.is_full
-        }
-    }
 }
 
 /// How far an upkeep is due: how many replies that count aren't paid off; what the last reply of the newest one says; and whether the edge
 /// had a turn since one that may have left more. And in milliseconds of the edge's clock: what it shows, what it showed when the newest
-/// upkeep was made, and since when `held` lasts; with how many waits had passed when the newest was asked. It is seen as these, with the
-/// rule of the upkeep.
+/// upkeep was made, and since when a wait runs, if one does; with how many waits had passed when the newest was asked. It is seen as these,
+/// with the rule of the upkeep.
 #[derive(Drop)]
 pub(crate) struct Tally<'a> {
     upkeep: Option<Upkeep<'a>>,
@@ -112,6 +102,7 @@ pub(crate) struct Tally<'a> {
     backlog: bool,
     clock: u64,
     made: u64,
+    runs: bool,
     since: u64,
     waited: usize,
 }
@@ -122,7 +113,7 @@ impl<'a> Model for Tally<'a> {
 
     ghost Value = { TallyState };
 
-    ghost view = { λ t. record { rule = option_map rule_of t.upkeep; count = t.count; last = t.last; backlog = t.backlog; clock = t.clock; made = t.made; since = t.since; waited = t.waited } };
+    ghost view = { λ t. record { rule = option_map rule_of t.upkeep; count = t.count; last = t.last; backlog = t.backlog; clock = t.clock; made = t.made; runs = t.runs; since = t.since; waited = t.waited } };
 
     ghost invariant = { λ t. IfNone t.upkeep (t.count ≡ 0) × IfSome t.upkeep (λ u. 0 < u.wait) };
 }
@@ -141,6 +132,7 @@ impl<'a> Tally<'a> {
             backlog: false,
             clock: 0,
             made: 0,
+            runs: false,
             since: 0,
             waited: 0,
         }
@@ -177,8 +169,10 @@ impl<'a> Tally<'a> {
         ensures { self.new ≡ paid self.old last }
     {
         let waited = self.waited();
-        self.waited = if last.goes_on(self.last) { waited } else { 0 };
-        self.since = if self.last.is_held { self.since } else { self.clock };
+        let (runs, goes_on) = (self.runs_behind(last), self.goes_on(last));
+        self.waited = if goes_on { waited } else { 0 };
+        self.since = if self.runs { self.since } else { self.clock };
+        self.runs = runs;
         self.count = self.count.saturating_sub(u64::from(pays(self.upkeep)));
         self.last = last;
         self.backlog = false;
@@ -189,7 +183,7 @@ impl<'a> Tally<'a> {
     pub(crate) fn waited(&self) -> usize
         ensures { result ≡ waited_by self.now }
     {
-        if self.last.is_held {
+        if self.runs {
             waits_in(self.upkeep, self.clock.saturating_sub(self.since))
         } else {
             self.waited
@@ -213,6 +207,28 @@ impl<'a> Tally<'a> {
         }
     }
 
+    /// Whether a wait runs behind an upkeep whose last reply says this.
+    fn runs_behind(&self, last: LastReply) -> bool
+        ensures { result ≡ runs_behind self.now last }
+    {
+        if last.is_held {
+            true
+        } else {
+            last.is_full && (self.runs && self.waited() == 0)
+        }
+    }
+
+    /// Whether the waits that have passed still count behind an upkeep whose last reply says this.
+    fn goes_on(&self, last: LastReply) -> bool
+        ensures { result ≡ goes_on self.now last }
+    {
+        if last.is_held {
+            self.runs
+        } else {
+            last.is_full
+        }
+    }
+
     /// Whether the newest upkeep was put off, and enough was counted since, and enough time has passed.
     fn is_soon(&self, upkeep: Upkeep<'_>) -> bool
         ensures { result ≡ is_soon (rule_of upkeep.entry) self.now }
@@ -226,7 +242,7 @@ impl<'a> Tally<'a> {
     fn is_late(&self) -> bool
         ensures { result ≡ nat_lt self.now.waited (waited_by self.now) }
     {
-        self.last.is_held && self.waited < self.waited()
+        self.runs && self.waited < self.waited()
     }
 }
 

@@ -4,11 +4,12 @@ ghost use Rattle.std.specs.Prelude.{◌≡◌, ◌==◌, ◌∷◌, [], ℕ, tru
 ghost use Rattle.std.specs.Prelude.{refl};
 
 use rest_machine::InMemory;
-use site_peers::{Deed, Peer};
+use site_peers::{Deed, Failure, Peer};
 use std::alloc::Global;
 use tardis_base::{Machine, NoMemory, ReplyBuf};
 
-/// Meets the peer of each introduction; replies to Stat that of the only site 3 states are known, and to everything else that it was applied.
+/// Meets the peer of each introduction; replies to Stat that of the only site 3 states are known, to a record with a key of two bytes that there is no
+/// room for it, and to everything else that it was applied.
 #[derive(Drop)]
 struct Replying {
     asked: u64,
@@ -19,7 +20,7 @@ impl Machine for Replying {
 
     ghost plain = { record {
       step = λ s e. s;
-      reply = λ s e. if length e.1 == 1 then 14 ∷ 0 ∷ 0 ∷ 0 ∷ 0 ∷ 0 ∷ 0 ∷ 0 ∷ 3 ∷ 0 ∷ 0 ∷ 0 ∷ 3 ∷ 0 ∷ 0 ∷ 0 ∷ 1 ∷ 0 ∷ 0 ∷ 1 ∷ 0 ∷ 0 ∷ 0 ∷ 3 ∷ 0 ∷ 0 ∷ 0 ∷ 0 ∷ 0 ∷ 0 ∷ 0 ∷ 0 ∷ 0 ∷ 0 ∷ [] else (if length e.1 == 22 then 72 ∷ 0 ∷ [] else 17 ∷ []);
+      reply = λ s e. if length e.1 == 1 then 14 ∷ 0 ∷ 0 ∷ 0 ∷ 0 ∷ 0 ∷ 0 ∷ 0 ∷ 3 ∷ 0 ∷ 0 ∷ 0 ∷ 3 ∷ 0 ∷ 0 ∷ 0 ∷ 1 ∷ 0 ∷ 0 ∷ 1 ∷ 0 ∷ 0 ∷ 0 ∷ 3 ∷ 0 ∷ 0 ∷ 0 ∷ 0 ∷ 0 ∷ 0 ∷ 0 ∷ 0 ∷ 0 ∷ 0 ∷ [] else (if length e.1 == 22 then 72 ∷ 0 ∷ [] else (if length e.1 == 20 then 21 ∷ 20 ∷ 0 ∷ 0 ∷ 0 ∷ 4 ∷ [] else 17 ∷ []));
       is_sure = λ e. true;
     } };
 
@@ -35,6 +36,8 @@ impl Machine for Replying {
             out.push(&STATISTICS);
         } else if request.len() == 22 {
             out.push(&[72, 0]);
+        } else if request.len() == 20 {
+            out.push(&[21, 20, 0, 0, 0, 4]);
         } else {
             out.push(&[17]);
         }
@@ -56,6 +59,11 @@ const INTRODUCTION: [u8; 25] = [
 const BATCH: [u8; 58] = [
     0, 0, 0, 54, 16, 0, 2, 0, 2, 0, 0, 0, 1, 1, 0, 0, 0, 0, 0, 0, 1, 1, 97, 0, 0, 2, 0, 0, 0, 2, 1,
     0, 2, 0, 0, 0, 1, 1, 1, 98, 0, 1, 0, 2, 0, 0, 0, 1, 0, 0, 0, 0, 0, 0, 0, 0, 0, 2,
+];
+
+/// A batch of one record, which deletes a key of two bytes, in its frame.
+const LONGER_KEY: [u8; 26] = [
+    0, 0, 0, 22, 16, 0, 1, 0, 2, 0, 0, 0, 3, 1, 0, 0, 0, 0, 0, 0, 1, 2, 97, 98, 0, 0,
 ];
 
 #[test]
@@ -81,4 +89,13 @@ fn exchanges_are_made(rt: HostRuntime) {
     assert!(rt; peer.tick(alloc, &mut machine, 12, &mut reply) == Deed::Stay);
     assert!(rt; machine.machine.asked == 5);
     assert!(rt; peer.rests_for(13) == 4_999);
+    // the record of the next answer finds no room
+    assert!(rt; peer.tick(alloc, &mut machine, 5_012, &mut reply) == Deed::Stay);
+    assert!(rt; peer.sent(5_012, 10) == Deed::Stay);
+    assert!(rt; peer.receive(alloc, 5_013, &LONGER_KEY) == Deed::Stay);
+    let why = Failure::NoRoom { records: 1 };
+    assert!(rt;
+        peer.tick(alloc, &mut machine, 5_014, &mut reply) == Deed::Fail { why, told: true }
+    );
+    assert!(rt; peer.rests_for(5_014) == 1_000);
 }

@@ -28,6 +28,8 @@ pub(crate) struct Line {
     is_reached: bool,
     /// It was told once that the peer is reached.
     was_reached: bool,
+    /// It was told last that there is no room for its records.
+    lacks_room: bool,
 }
 
 /// What there is of a connection.
@@ -51,6 +53,7 @@ impl Line {
             fault: None,
             is_reached: false,
             was_reached: false,
+            lacks_room: false,
         }
     }
 
@@ -191,10 +194,14 @@ impl Line {
         }
     }
 
-    /// Tells that the peer's answer came, unless that was told since it was lost.
+    /// Tells that the peer's answer came, or that there is room again for its records, unless that was told since it was lost.
     pub(crate) fn tell_reached(&mut self, peer: &Peer, watch: &mut impl Watch) {
         if !self.is_reached && is_answered(peer) {
-            watch.reached(self.address.as_str(), self.was_reached);
+            if self.lacks_room {
+                watch.found_room(self.address.as_str());
+            } else {
+                watch.reached(self.address.as_str(), self.was_reached);
+            }
             self.is_reached = true;
             self.was_reached = true;
         }
@@ -204,13 +211,15 @@ impl Line {
     pub(crate) fn tell_failure(&mut self, why: Failure, watch: &mut impl Watch) {
         watch.failed(self.address.as_str(), self.was_reached, why, self.fault);
         self.is_reached = false;
+        self.lacks_room = matches!(&why, Failure::NoRoom { .. });
     }
 }
 
-/// Whether the peer's answer came.
+/// Whether the peer's answer came; all of it has to be taken, where there was no room for the one before.
 fn is_answered(peer: &Peer) -> bool {
-    matches!(
-        &peer.moment,
-        Moment::Idle { .. } | Moment::Delivering { .. }
-    )
+    match &peer.moment {
+        Moment::Idle { .. } => true,
+        Moment::Delivering { .. } => !matches!(&peer.last, Some(Failure::NoRoom { .. })),
+        _ => false,
+    }
 }

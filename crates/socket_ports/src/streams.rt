@@ -1,17 +1,14 @@
 //! Connections over Unix sockets and TCP.
 
-ghost use Rattle.std.specs.Prelude.{◌≡◌, ◌∷◌, length};
+ghost use Rattle.std.specs.Prelude.{◌≡◌, ◌∷◌, length, to_be_bytes, w32};
 ghost use Rattle.std.specs.Io.{ReadsAtMost, WritesAtMost};
-ghost use Rattle.tardis_base.specs.declared.replies.Reply.TheVariants.{Refused};
-ghost use Rattle.tardis_base.specs.declared.replies.Refusal.TheVariants.{SessionsFull};
-ghost use Rattle.wire_talk.specs.Spellings.{reply_spelling};
 
 use crate::keepalives::keep_alive;
 use mio::net::{TcpStream, UnixStream};
 use mio::{Interest, Registry, Token};
 use std::io::{self, Read, Write};
 use std::net::{Shutdown, SocketAddr};
-use wire_talk::{refusal_codes, reply_codes};
+use wire_talk::reply_codes::REFUSED;
 
 /// A connection.
 #[derive(Drop)]
@@ -20,20 +17,25 @@ pub(crate) enum Stream {
     Tcp(TcpStream),
 }
 
-/// What a connection is told that finds no room: the frame of the reply Refused, with the refusal SessionsFull and how many there are.
-fn full(connections: u16) -> [u8; 8]
-    ensures { result ≡ 0 ∷ 0 ∷ 0 ∷ 4 ∷ reply_spelling (Refused (SessionsFull connections)) }
+/// The refusal that there are as many connections as there may be. No site gives it: it is the edge's own (`docs/FORMATS.md`, 'Refusals of the edge').
+const CONNECTIONS_FULL: u8 = 30;
+
+/// What a connection is told that finds no room: the frame of a refusal, with how many connections there may be.
+fn full(connections: u16) -> [u8; 10]
+    ensures { result ≡ 0 ∷ 0 ∷ 0 ∷ 6 ∷ REFUSED ∷ CONNECTIONS_FULL ∷ to_be_bytes w32 connections }
 {
-    let [high, low] = connections.to_be_bytes();
+    let [first, second, third, fourth] = (connections as u32).to_be_bytes();
     [
         0,
         0,
         0,
-        4,
-        reply_codes::REFUSED,
-        refusal_codes::SESSIONS_FULL,
-        high,
-        low,
+        6,
+        REFUSED,
+        CONNECTIONS_FULL,
+        first,
+        second,
+        third,
+        fourth,
     ]
 }
 

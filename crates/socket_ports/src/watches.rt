@@ -19,7 +19,10 @@ pub trait Watch {
     /// The peer's first answer came, or with `again` its first since it was lost.
     fn reached(&mut self, address: &str, again: bool);
 
-    /// The exchange with the peer failed, and before it none did. `before` says whether it was reached before. Where it couldn't be called, the
+    /// All that came of the peer was taken, for the first time since there was no room for some of it.
+    fn found_room(&mut self, address: &str);
+
+    /// The exchange with the peer failed, and before it none did, or for a cause of another kind. `before` says whether it was reached before. Where it couldn't be called, the
     /// system said this.
     fn failed(&mut self, address: &str, before: bool, why: Failure, said: Option<io::ErrorKind>);
 

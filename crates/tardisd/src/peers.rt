@@ -26,6 +26,10 @@ impl Watch for PeersTold<'_> {
         let _ = self.rt.eprintln(Reached { address, again });
     }
 
+    fn found_room(&mut self, address: &str) {
+        let _ = self.rt.eprintln(FoundRoom { address });
+    }
+
     fn failed(&mut self, address: &str, before: bool, why: Failure, said: Option<io::ErrorKind>) {
         let lost = Lost {
             address,
@@ -110,7 +114,23 @@ impl fmt::Display for Reached<'_> {
     }
 }
 
-/// The line that a peer is lost, or wasn't reached.
+/// The line that there is room again for what comes of a peer.
+#[derive(Clone, Copy)]
+struct FoundRoom<'a> {
+    address: &'a str,
+}
+
+impl fmt::Display for FoundRoom<'_> {
+    fn fmt<W: fmt::Write>(&self, f: &mut fmt::Formatter<W>) -> fmt::Result {
+        write!(
+            f,
+            "tardisd: peer {}: there is room again for all of its records",
+            self.address
+        )
+    }
+}
+
+/// The line that a peer is lost, or wasn't reached, or that there is no room for what came of it.
 #[derive(Clone, Copy)]
 struct Lost<'a> {
     address: &'a str,
@@ -122,7 +142,11 @@ struct Lost<'a> {
 impl fmt::Display for Lost<'_> {
     fn fmt<W: fmt::Write>(&self, f: &mut fmt::Formatter<W>) -> fmt::Result {
         let what = if self.before { "lost" } else { "not reached" };
-        write!(f, "tardisd: peer {}: {what}: ", self.address)?;
+        write!(f, "tardisd: peer {}: ", self.address)?;
+        if let Failure::NoRoom { records } = self.why {
+            return write_no_room(f, records);
+        }
+        write!(f, "{what}: ")?;
         match self.why {
             Failure::NotReached => write_said(f, self.said)?,
             Failure::NotMet { why } => write_verdict(f, why)?,
@@ -183,6 +207,14 @@ fn write_verdict<W: fmt::Write>(f: &mut fmt::Formatter<W>, why: u8) -> fmt::Resu
     }
 }
 
+/// Writes that there was no room for so many of a peer's records, and what is to be done.
+fn write_no_room<W: fmt::Write>(f: &mut fmt::Formatter<W>, records: u32) -> fmt::Result {
+    write!(
+        f,
+        "no room for {records} of its records, tried again: reach all sites, merge branches, end old sessions, or with --file raise --states"
+    )
+}
+
 /// Writes why an exchange failed otherwise.
 fn write_failure<W: fmt::Write>(f: &mut fmt::Formatter<W>, why: Failure) -> fmt::Result {
     match why {
@@ -200,5 +232,6 @@ fn write_failure<W: fmt::Write>(f: &mut fmt::Formatter<W>, why: Failure) -> fmt:
         Failure::Unasked => write!(f, "it sent what it wasn't asked for, so it is no tardisd"),
         Failure::NoCounts => write!(f, "this site told no counts"),
         Failure::NoMemory => write!(f, "there was no memory for its answer"),
+        Failure::NoRoom { records } => write_no_room(f, records),
     }
 }

@@ -53,9 +53,9 @@ abbrev pub tidy_rule : (tidy : Bool) → UpkeepRule
 tidy_rule false = slow_rule watching []
 tidy_rule true = slow_rule (watching ++ request_spelling RaiseAuto ∷ request_spelling (Tidy 64) ∷ []) (reply_spelling (Tidied 64))
 
--- the request to join two leaves by rules, those of other sites too after so many waits
-abbrev pub join_request : (waits : ℕ) → (rules : List ℕ) → List ℕ
-join_request waits rules = JOIN ∷ waits ∷ rules
+-- the request to join two leaves by rules, with this patience
+abbrev pub join_request : (patience : ℕ) → (rules : List ℕ) → List ℕ
+join_request patience rules = JOIN ∷ patience ∷ rules
 
 -- After each turn in which a reply was given that counts these are asked, and then two leaves are joined by rules; and again behind the
 -- next turn where two were. Where leaves stay apart, they are asked again once 64 replies were given that count, or one and a second has

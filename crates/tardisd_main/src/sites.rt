@@ -228,13 +228,13 @@ fn wait_of(seconds: u32) -> u64
     (1_000 * u64::from(seconds)).max(1)
 }
 
-/// The request to join leaves by these rules, after so many waits.
-fn join_request(alloc: Global, waits: u8, rules: &str) -> Result<Vec<u8>, NoMemory>
-    ensures { IfOk result (λ request. request.items ≡ join_request waits rules.now) }
+/// The request to join leaves by these rules, with this patience: a wait more for each.
+fn join_request(alloc: Global, patience: u8, rules: &str) -> Result<Vec<u8>, NoMemory>
+    ensures { IfOk result (λ request. request.items ≡ join_request patience rules.now) }
 {
     let mut request = Vec::new(alloc);
     request.push(join_codes::JOIN)?;
-    request.push(waits)?;
+    request.push(patience)?;
     request.extend_from_slice(rules.as_bytes())?;
     Ok(request)
 }
