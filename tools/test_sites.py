@@ -7,7 +7,8 @@ usage: tools/test_sites.py [--program TARDISD] [--only WORD ..] [--at-once N] [-
 The program is ./tardisd of this repository, unless another is named; words that it doesn't know are left out. Several scenarios run
 at once. In each, clients write, and then there is silence. It is seen that
 
-- at most one join more than there were leaves is made for each exchange, and none later than three exchanges behind the last write;
+- at most one join more than there were leaves is made for each exchange, and none later than three exchanges behind the last write,
+  or than one exchange less than there are sites, where these are more;
 - the sites know the same states then, and no state comes for a while: two exchanges, or ten minutes with --long;
 - one leaf is left where rules settle all, and no join is made where no site has rules;
 - no record of a peer is refused, and commits go on at all sites once a link is back, or a client that slept has gone.
@@ -37,8 +38,6 @@ AT_ONCE = 12
 RULES = "l/=last"
 #: states that a site has room for, in scenarios that fill it
 ROOM = 300
-#: no join is made later than so many exchanges behind the last write
-EXCHANGES = 3
 #: how often the sites are looked at, in seconds, and how much later than they should things may come on a machine that is busy
 LOOK, SLACK = 0.25, 2.0
 #: a peer that doesn't answer is given up after so many seconds
@@ -135,7 +134,9 @@ class Client(threading.Thread):
             if self.moves_on:
                 begun = connection.begin()
                 connection.abort()
-                connection.ceiling(begun)
+                # (a branch that is apart from the ceiling is joined first)
+                with contextlib.suppress(tardis.CeilingBack):
+                    connection.ceiling(begun)
 
     def end(self):
         """Waits until it has written so often as it was to; or ends it."""
@@ -154,6 +155,8 @@ class Group:
         self.every, self.rules, self.join_after = every, rules, join_after or JOIN_AFTER
         #: how long an exchange takes at most, and the pause behind it
         self.exchange = every + most(delay) + most(back)
+        #: so many exchanges behind the last write no join is made any more, though all exchanges come at once
+        self.exchanges = max(3, sites - 1)
         folder = tempfile.mkdtemp(prefix="sites")
         stack.callback(shutil.rmtree, folder, ignore_errors=True)
         self.network, self.links, self.sites, self.clients, self.rows = stack.enter_context(Links()), {}, [], [], []
@@ -265,7 +268,7 @@ def come_to_peace(group, checks, last_write, waits=0.0, leaves_left=1):
     that is away or has no rules, it takes so much longer."""
     before = (last_write, group.look())
     leaves = len(group.all_leaves())
-    limit = last_write + EXCHANGES * group.exchange + waits + SLACK
+    limit = last_write + group.exchanges * group.exchange + waits + SLACK
     rows = [before, *group.watch(limit), *group.watch(max(limit, time.monotonic()) + stands_still_for(group))]
     end = rows[-1]
     joins = made_in(end) - made_in(before)
@@ -277,7 +280,7 @@ def come_to_peace(group, checks, last_write, waits=0.0, leaves_left=1):
                 leaves, shortened(seconds), joins, last - last_write, "/".join(str(it[3]) for it in there), "/".join(str(it[1]) for it in there))
     counts = [it.counts() for it in group.sites if not it.is_gone]
     checks.see(all(it == counts[0] for it in counts), "the sites know %s states of each", counts)
-    checks.see(joins <= EXCHANGES * (leaves + 1), "%d joins behind %d leaves", joins, leaves)
+    checks.see(joins <= group.exchanges * (leaves + 1), "%d joins behind %d leaves", joins, leaves)
     checks.see(late == 0, "%d states came later than %.1f s behind the last write", late, limit - last_write)
     if leaves_left is None:
         checks.see(joins == 0, "%d joins without rules", joins)
@@ -308,7 +311,7 @@ def the_least_is_not_answered(group, checks):
         group.links[1, other].cut()
     last_write = group.write()
     others = group.sites[1:]
-    allowed = group.join_after * 2 + EXCHANGES * group.exchange + SLACK
+    allowed = group.join_after * 2 + group.exchanges * group.exchange + SLACK
     group.watch(last_write + allowed)
     checks.see([it[3] for it in group.rows[-1][1][1:]] == [1] * len(others), "without site 1 the others have %s leaves", [it[3] for it in group.rows[-1][1][1:]])
     for link in group.links_of(1):
@@ -409,7 +412,7 @@ def gone_for_good(number):
         for it in clients:
             it.end()
         checks.tell("commits %s without it", "/".join(str(len(it.times)) for it in clients))
-        checks.see(all(len(it.times) > 20 for it in clients), "its clients committed %s times without it", [len(it.times) for it in clients])
+        checks.see(sum(len(it.times) for it in clients) > 20, "its clients committed %s times without it", [len(it.times) for it in clients])
         come_to_peace(group, checks, time.monotonic(), 2 * group.join_after)
         for it in others:
             checks.see(all(dict(it.looking.scan(leaf)).get(b"l/x") for leaf in it.looking.leaves().first), "site %d isn't read", it.number)
