@@ -10,6 +10,7 @@ at once. In each, clients write, and then there is silence. It is seen that
 - at most one join more than there were leaves is made for each exchange, and none later than three exchanges behind the last write,
   or than one exchange less than there are sites, where these are more;
 - the sites know the same states then, and no state comes for a while: two exchanges, or ten minutes with --long;
+- clients that write all the time read what was written at the other sites a few exchanges before;
 - one leaf is left where rules settle all, and no join is made where no site has rules;
 - no record of a peer is refused, and commits go on at all sites once a link is back, or a client that slept has gone.
 
@@ -110,7 +111,8 @@ class Client(threading.Thread):
     def __init__(self, site, count=None, pause=0.3, seed=0, moves_on=True):
         super().__init__(daemon=True)
         self.site, self.count, self.pause, self.random = site, count, pause, random.Random("%d %d" % (site.number, seed))
-        self.moves_on = moves_on
+        #: the sites of which it reads what was written last, and how old that was
+        self.moves_on, self.reads, self.ages = moves_on, [], []
         self.is_over, self.times, self.refused, self.fault = threading.Event(), [], 0, None
         self.start()
 
@@ -127,7 +129,9 @@ class Client(threading.Thread):
     def write(self, connection):
         try:
             with connection.transaction() as txn:
+                self.note(txn)
                 txn.put(b"l/x", b"%d of %d" % (len(self.times), self.site.number))
+                txn.put(b"l/at%d" % self.site.number, b"%.3f" % time.monotonic())
             self.times.append(time.monotonic())
         except tardis.Full:
             self.refused += 1
@@ -137,6 +141,11 @@ class Client(threading.Thread):
                 # (a branch that is apart from the ceiling is joined first)
                 with contextlib.suppress(tardis.CeilingBack):
                     connection.ceiling(begun)
+
+    def note(self, txn):
+        """Notes how old the newest is that it reads of each other site."""
+        for other in self.reads:
+            self.ages.append(time.monotonic() - float(txn.value(b"l/at%d" % other, b"%f" % time.monotonic())))
 
     def end(self):
         """Waits until it has written so often as it was to; or ends it."""
@@ -205,9 +214,9 @@ class Group:
             it.end()
         return max(it.times[-1] for it in clients)
 
-    def begin_clients(self, at=None, each=2, moves_on=True):
+    def begin_clients(self, at=None, each=2, moves_on=True, pause=0.02):
         """Clients at each site, or at these, that go on until they are told to end, and that try again soon."""
-        begun = [Client(it, None, 0.02, seed, moves_on) for it in self.sites if at is None or it.number in at for seed in range(each)]
+        begun = [Client(it, None, pause, seed, moves_on) for it in self.sites if at is None or it.number in at for seed in range(each)]
         self.clients += begun
         return begun
 
@@ -218,12 +227,12 @@ class Group:
         self.rows.append((time.monotonic(), [it.look() for it in self.sites]))
         return self.rows[-1][1]
 
-    def watch(self, until_when):
+    def watch(self, until_when, pause=LOOK):
         """Looks at all sites until then. Gives all that was seen."""
         begun = len(self.rows)
         while time.monotonic() < until_when:
             self.look()
-            time.sleep(LOOK)
+            time.sleep(pause)
         self.look()
         return self.rows[begun:]
 
@@ -269,7 +278,7 @@ def come_to_peace(group, checks, last_write, waits=0.0, leaves_left=1):
     before = (last_write, group.look())
     leaves = len(group.all_leaves())
     limit = last_write + group.exchanges * group.exchange + waits + SLACK
-    rows = [before, *group.watch(limit), *group.watch(max(limit, time.monotonic()) + stands_still_for(group))]
+    rows = [before, *group.watch(limit), *group.watch(max(limit, time.monotonic()) + stands_still_for(group), 1)]
     end = rows[-1]
     joins = made_in(end) - made_in(before)
     late = made_in(end) - made_in([it for it in rows if it[0] <= limit][-1])
@@ -303,6 +312,21 @@ def clients_write(group, checks):
     rules = group.rules
     waits = 2 * group.join_after if rules not in ("all", "none") else 0
     come_to_peace(group, checks, group.write(), waits, None if rules == "none" else 1)
+
+
+def clients_go_on(group, checks):
+    """Clients write at each site without a pause that is as long as an exchange, and read what was written at the others."""
+    clients = group.begin_clients(each=1, pause=0.2)
+    for it in clients:
+        it.reads = [other.number for other in group.sites if other.number != it.site.number]
+    group.watch(time.monotonic() + 40)
+    last_write = time.monotonic()
+    for it in clients:
+        it.end()
+    oldest = max(max(it.ages) for it in clients)
+    checks.tell("what they read of other sites was at most %.1f s old; at most %d states were kept", oldest, max(seen[1] for row in group.rows for seen in row[1]))
+    checks.see(oldest <= (group.exchanges + 1) * group.exchange + SLACK, "what was read of another site was %.1f s old", oldest)
+    come_to_peace(group, checks, last_write)
 
 
 def the_least_is_not_answered(group, checks):
@@ -447,6 +471,7 @@ def scenarios():
             add(clients_write, "rules at site 1", sites, delay, rules=1, join_after=1)
         add(clients_write, "rules at the last site", sites, 0.15, rules=sites, join_after=1)
         add(clients_write, "no rules", sites, 0.15, rules="none")
+        add(clients_go_on, "clients go on", sites, 0.15)
     add(the_least_is_not_answered, "the least site away and back", 3, join_after=3)
     add(one_way_is_lost, "one way lost", 2)
     add(one_way_is_held, "one way held", 2)
