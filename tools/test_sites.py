@@ -320,9 +320,8 @@ def clients_go_on(group, checks):
     for it in clients:
         it.reads = [other.number for other in group.sites if other.number != it.site.number]
     group.watch(time.monotonic() + 40)
-    last_write = time.monotonic()
-    for it in clients:
-        it.end()
+    end_all(clients)
+    last_write = max(it.times[-1] for it in clients)
     oldest = max(max(it.ages) for it in clients)
     checks.tell("what they read of other sites was at most %.1f s old; at most %d states were kept", oldest, max(seen[1] for row in group.rows for seen in row[1]))
     checks.see(oldest <= (group.exchanges + 1) * group.exchange + SLACK, "what was read of another site was %.1f s old", oldest)
@@ -392,9 +391,15 @@ def commits_go_on(group, checks, clients, seconds, more=20):
                 time.monotonic() - begun)
 
 
-def end_in_peace(group, checks, clients):
+def end_all(clients):
+    for it in clients:
+        it.is_over.set()
     for it in clients:
         it.end()
+
+
+def end_in_peace(group, checks, clients):
+    end_all(clients)
     come_to_peace(group, checks, time.monotonic())
 
 
@@ -433,8 +438,7 @@ def gone_for_good(number):
         group.sites[number - 1].go()
         clients = group.begin_clients([it.number for it in others])
         refused_for_a_while(clients)
-        for it in clients:
-            it.end()
+        end_all(clients)
         checks.tell("commits %s without it", "/".join(str(len(it.times)) for it in clients))
         checks.see(sum(len(it.times) for it in clients) > 20, "its clients committed %s times without it", [len(it.times) for it in clients])
         come_to_peace(group, checks, time.monotonic(), 2 * group.join_after)
@@ -472,6 +476,7 @@ def scenarios():
         add(clients_write, "rules at the last site", sites, 0.15, rules=sites, join_after=1)
         add(clients_write, "no rules", sites, 0.15, rules="none")
         add(clients_go_on, "clients go on", sites, 0.15)
+        add(clients_go_on, "clients go on, with --join-after 3", sites, 0.15, join_after=3)
     add(the_least_is_not_answered, "the least site away and back", 3, join_after=3)
     add(one_way_is_lost, "one way lost", 2)
     add(one_way_is_held, "one way held", 2)
