@@ -33,7 +33,7 @@ def cart_at(site, state):
 
 def main(address):
     with tardis.connect(address) as phone, tardis.connect(address) as laptop:
-        phone.open(follow=True), laptop.open(follow=True)
+        phone.open(), laptop.open()
         start = change("phone", phone, ["jam", "tea"])
         # both go on from there, and neither knows of the other: the phone takes the tea out, the laptop adds bread
         left = change("phone", phone, ["milk"], ["tea"])

@@ -5,10 +5,14 @@ It prints:
     1.1 has 10 visits
     6 clients wrote, each on a branch of its own: 6 leaves
     $ python -m tardis merge ADDRESS --rules visits/=count,cart/=set
-    1.8 joins 1.2, 1.3, 1.4, 1.5, 1.6, 1.7: cart/1, visits/home
+    1.8 joins 1.2, 1.3: cart/1, visits/home
+    1.9 joins 1.4, 1.5: cart/1, visits/home
+    1.10 joins 1.6, 1.7: cart/1, visits/home
+    1.11 joins 1.8, 1.9: cart/1, visits/home
+    1.12 joins 1.10, 1.11: cart/1, visits/home
     visits/home is 16, cart/1 is item0,item1,item2,item3,item4,item5,tea
     $ python -m tardis merge ADDRESS --rules visits/=count,cart/=set
-    tardis: the key b'price' can't be resolved: its rule is `refuse`, or no rule speaks of it; give --rules PREFIX=RULE,..
+    tardis: the key b'price' can't be resolved: no rule's prefix begins it, so its rule is `refuse`
 """
 
 import subprocess
@@ -18,7 +22,7 @@ import tardis
 
 SITES = 1
 
-# a client may merge by the same rules: by_prefix({"visits/": counter, "cart/": union_of(",")})
+# a server that is started with --rules joins by the same rules, and so does merge(tardis.Rules(RULES)) of a client
 RULES = "visits/=count,cart/=set"
 
 
@@ -32,7 +36,7 @@ def merge(address):
 def main(address):
     clients = [tardis.connect(address) for _ in range(6)]
     for client in clients:
-        client.open(follow=True)
+        client.open()
     first = clients[0]
     with first.transaction() as txn:
         txn.put("visits/home", "10"), txn.put("cart/1", "tea")
@@ -42,7 +46,8 @@ def main(address):
         client.begin(txn.committed)
     for number, client in enumerate(clients):
         client.put("visits/home", str(int(client.value("visits/home")) + 1))
-        client.put("cart/1", client.value("cart/1") + b",item%d" % number)
+        # (the rule `set` reads items that ascend)
+        client.put("cart/1", b",".join(sorted([client.value("cart/1"), b"item%d" % number])))
     for client in clients:
         client.commit()
     print(f"{len(clients)} clients wrote, each on a branch of its own: {first.leaves().total} leaves")

@@ -44,7 +44,7 @@ def edit(site, at, *changes):
 
 def main(address):
     with tardis.connect(address) as ann, tardis.connect(address) as bob:
-        ann.open(follow=True), bob.open(follow=True)
+        ann.open(), bob.open()
         with ann.transaction() as txn:
             txn.put("doc", FIRST)
         start = txn.committed

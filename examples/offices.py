@@ -47,7 +47,7 @@ def calendar(site):
 
 def main(*addresses):
     with tardis.connect(addresses[0]) as basel, tardis.connect(addresses[1]) as zurich:
-        basel.open(follow=True), zurich.open(follow=True)
+        basel.open(), zurich.open()
         book(basel, "monday", "Ann"), book(zurich, "tuesday", "Bob")
         print("Basel booked monday, Zurich booked tuesday, and neither knows of the other")
         carry(addresses)
@@ -57,7 +57,7 @@ def main(*addresses):
         merged = basel.merge(tardis.union_of(","))
         carry(addresses)
         print(f"merged in Basel as {merged.id}, and carried to Zurich\nin Zurich: {calendar(zurich)}")
-        # a laptop reads, and goes offline; it needs no more than the state at which it read
+        # a laptop reads, and goes offline; it needs no more than the state at which it read (device.py: where that is collected)
         with tardis.connect(addresses[1]) as laptop:
             laptop.open()
             read_at = laptop.begin("any")

@@ -36,7 +36,7 @@ def start(folder, site, sites):
 
 def main():
     if len(sys.argv) != 2:
-        sys.exit("usage: examples/run.py cart|counters|document|offices")
+        sys.exit("usage: examples/run.py cart|counters|device|document|offices")
     program = os.path.join(HERE, sys.argv[1] + ".py")
     with open(program, encoding="utf-8") as file:
         sites = int(re.search(r"^SITES = (\d+)$", file.read(), re.MULTILINE).group(1))

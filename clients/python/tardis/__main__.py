@@ -2,6 +2,7 @@
 
 import argparse
 import contextlib
+import io
 import json
 import os
 import shutil
@@ -14,11 +15,12 @@ from .blocking import Site, Transaction, connect
 from .exports import put_entries, put_in_place, read_export, write_export
 from .histories import State
 from .ids import StateId
-from .merging import Merged
+from .merging import Merged, MergeStep
 from .pictures import as_dot, as_json, as_svg, as_text, json_bytes, word, writes_data, wrote
 from .refusals import NoMemory, ProtocolError, Refused, SessionsFull, Unresolved, Unsupported
-from .replies import Deleted, Value
+from .replies import Deleted, States, Value
 from .resolvers import Base, Resolve, Sides, Unknown, by_prefix, counter, last_writer, three_way_text, union_of, union_of_lines
+from .rules import NAMES, Rules
 
 #: how long a reply is waited for, in seconds
 PATIENCE = 30.0
@@ -57,8 +59,7 @@ def graph(site: Site, words: Words) -> None:
 
 
 def write_file(path: str, text: str) -> None:
-    with open(path, "w", encoding="utf-8") as file:
-        file.write(text)
+    put_in_place(io.BytesIO(text.encode()), path)
 
 
 def stat(site: Site, words: Words) -> None:
@@ -97,9 +98,23 @@ def show(site: Site, words: Words) -> None:
         "writes": writes_data(state)})
 
 
+def tell_of_leaves(site: Site, shown: StateId) -> None:
+    """Where there are several leaves, says which of them is shown."""
+    leaves = site.leaves()
+    if leaves.total > 1:
+        print(f"tardis: there are {leaves.total} leaves, {named(leaves)}, and this is what {shown} has: --at STATE shows another, and "
+              "merge joins them", file=sys.stderr)
+
+
+def named(leaves: States) -> str:
+    return ", ".join(map(str, leaves.first[:MOST_NAMED])) + (", .." if leaves.total > MOST_NAMED else "")
+
+
 def get(site: Site, words: Words) -> None:
     site.open()
     begun = StateId.parse(words.at) if words.at else site.begin("any")
+    if not words.at:
+        tell_of_leaves(site, begun)
     try:
         read = site.get_at(words.key, begun)
     except Unsupported:
@@ -148,6 +163,8 @@ def change(site: Site, words: Words, write: Callable[[Transaction], None]) -> No
 
 def keys(site: Site, words: Words) -> None:
     at = StateId.parse(words.at) if words.at else newest(site)
+    if not words.at:
+        tell_of_leaves(site, at)
     told = site.items(at, words.prefix)
     lines = [f"{word(key)} = {word(value)}" for key, value in told.items]
     if not told.is_complete and not words.json:
@@ -176,12 +193,22 @@ def sessions(site: Site, words: Words) -> None:
          "reads": [str(state) for state in line.reads], "holds": line.holds} for line in told.first]})
 
 
+def raise_floor(site: Site, words: Words) -> None:
+    told = site.raise_floor(words.state)
+    say(words, [f"the floor stands at {told.floor}"], {"floor": str(told.floor), "raised": told.number})
+
+
+def tidy(site: Site, words: Words) -> None:
+    count = site.tidy()
+    say(words, [f"{count} {'state' if count == 1 else 'states'} collected"], {"collected": count})
+
+
 def export(site: Site, words: Words) -> None:
     if words.out is None and sys.stdout.isatty():
         raise Told("an export is bytes, and not for a terminal: give --out FILE, or send it on")
     # the session holds the floor where it is, so that the state isn't collected while it is read
     with contextlib.suppress(SessionsFull):
-        site.open()
+        site.open(follow=False)
     state = StateId.parse(words.at) if words.at else the_leaf(site)
     with tempfile.TemporaryFile() as whole:
         # nothing is written before all is there
@@ -198,7 +225,7 @@ def load(site: Site, words: Words) -> None:
     # the whole file is read, and known to be an export, before anything is put
     with open(words.file, "rb") as file:
         entries = read_export(file)
-    site.open(follow=True)
+    site.open()
     made = put_entries(site, entries)
     count = f"{len(entries)} {'key' if len(entries) == 1 else 'keys'}"
     print(f"{count} put, from {made[0]} to {made[-1]}" if made else f"{count} put: there are none in the export")
@@ -208,18 +235,12 @@ def the_leaf(site: Site) -> StateId:
     """The one leaf that there is."""
     leaves = site.leaves()
     if leaves.total > 1:
-        named = ", ".join(map(str, leaves.first[:MOST_NAMED])) + (", .." if leaves.total > MOST_NAMED else "")
-        raise Told(f"there are {leaves.total} leaves, {named}: give --at STATE, or merge them first")
+        raise Told(f"there are {leaves.total} leaves, {named(leaves)}: give --at STATE, or merge them first")
     return leaves.first[0]
 
 
-RULES: Dict[str, Resolve] = {
-    "last": last_writer, "count": counter, "set": union_of(","), "lines": union_of_lines, "text": three_way_text,
-}
-
-
 def refuse(key: bytes, base: Base, sides: Sides) -> Optional[bytes]:
-    raise Unresolved(key, "its rule is `refuse`, or no rule speaks of it; give --rules PREFIX=RULE,..")
+    raise Unresolved(key, "nobody says what it shall have: give --rules PREFIX=RULE,.., or run this in a terminal, where it asks")
 
 
 def ask_person(key: bytes, base: Base, sides: Sides) -> Optional[bytes]:
@@ -239,27 +260,48 @@ def ask_person(key: bytes, base: Base, sides: Sides) -> Optional[bytes]:
             return choices[int(said) - 1][1]
 
 
-def rules(text: Optional[str]) -> Resolve:
-    if text is None:
-        return ask_person if sys.stdin.isatty() else refuse
+#: the client's own resolvers, by the names that the command has for them: no server has these
+RESOLVERS: Dict[str, Resolve] = {
+    "text": three_way_text, "lines": union_of_lines, "union_of": union_of(","), "counter": counter, "last_writer": last_writer,
+}
+
+
+def resolvers(text: str) -> Resolve:
+    """What `--resolvers` says."""
     chosen: Dict[Any, Resolve] = {b"": refuse}
     for part in text.split(","):
-        prefix, equals, rule = part.rpartition("=")
-        if not equals or rule not in (*RULES, "refuse"):
-            raise Told(f"a rule is PREFIX={'|'.join([*RULES, 'refuse'])}, and not {part!r}")
-        chosen[prefix.encode()] = RULES.get(rule, refuse)
+        prefix, equals, name = part.rpartition("=")
+        if not equals or name not in RESOLVERS:
+            raise Told(f"a resolver is PREFIX={'|'.join(RESOLVERS)}, and not {part!r}")
+        chosen[prefix.encode()] = RESOLVERS[name]
     return by_prefix(chosen)
 
 
+def resolver(words: Words) -> Resolve:
+    if words.rules is not None:
+        return Rules(words.rules)
+    if words.resolvers is not None:
+        return resolvers(words.resolvers)
+    return ask_person if sys.stdin.isatty() else refuse
+
+
+def step_line(step: MergeStep) -> str:
+    return f"{step.id} joins {', '.join(map(str, step.parents))}" + (f": {', '.join(map(word, step.keys))}" if step.keys else "")
+
+
 def merge(site: Site, words: Words) -> None:
-    site.open(follow=True)
-    merged: Optional[Merged] = site.merge(rules(words.rules), words.states or None)
+    site.open()
+    try:
+        merged: Optional[Merged] = site.merge(resolver(words), words.states or None)
+    except Unresolved as fault:
+        # what was joined before stands
+        for step in fault.steps:
+            print(step_line(step), file=sys.stderr if words.json else sys.stdout)
+        raise
     if merged is None:
         say(words, ["one leaf alone, so there is nothing to merge"], None)
         return
-    lines = [f"{step.id} joins {', '.join(map(str, step.parents))}" + (f": {', '.join(map(word, step.keys))}" if step.keys else "")
-             for step in merged.steps]
-    say(words, lines, {"id": str(merged.id), "steps": [
+    say(words, [step_line(step) for step in merged.steps], {"id": str(merged.id), "steps": [
         {"id": str(step.id), "parents": [str(parent) for parent in step.parents], "keys": [json_bytes(key) for key in step.keys]}
         for step in merged.steps]})
 
@@ -312,8 +354,13 @@ def parser() -> argparse.ArgumentParser:
     listed.add_argument("--prefix", default="", help="only keys that begin so")
     joined = command("merge", merge, "joins all leaves, or the states that are named; asks for each conflict where no rules are given")
     joined.add_argument("states", metavar="STATE", nargs="*")
-    joined.add_argument("--rules", metavar="PREFIX=RULE,..", help=f"a rule is {', '.join(RULES)} or refuse; the longest prefix counts")
+    how = joined.add_mutually_exclusive_group()
+    how.add_argument("--rules", metavar="PREFIX=RULE,..", help=f"by a server's rules: {', '.join(NAMES)}; the longest prefix counts")
+    how.add_argument("--resolvers", metavar="PREFIX=NAME,..", help=f"by the client's own: {', '.join(RESOLVERS)}; the longest prefix counts")
     command("sessions", sessions, "lists the open sessions, and which of them hold the floor")
+    raised = command("raise", raise_floor, "moves the floor down as far as all sessions allow, or to a state: what lies above may be collected")
+    raised.add_argument("state", metavar="STATE", nargs="?", help="to this state; else as far as it may go")
+    command("tidy", tidy, "collects the states that lie above every floor, which nobody reads any more")
     exported = command("export", export, "writes the keys and values of a state, as `tardis import` reads them", False)
     exported.add_argument("--at", metavar="STATE", help="of this state; else of the one leaf")
     exported.add_argument("--out", metavar="FILE", help="to this file, whole or not at all; else to standard output")

@@ -1,8 +1,9 @@
 """Where a site listens."""
 
+import socket
 from typing import Tuple, Union
 
-__all__ = ["parse_address"]
+__all__ = ["not_reached", "parse_address", "parse_timeout"]
 
 
 def parse_address(address: str) -> Union[str, Tuple[str, int]]:
@@ -32,3 +33,10 @@ def parse_timeout(timeout: Union[float, int, None]) -> Union[float, None]:
     if isinstance(timeout, bool) or not isinstance(timeout, (int, float)) or not timeout > 0:
         raise ValueError(f"a timeout is a number of seconds above 0, or None for no end, and not {timeout!r}")
     return float(timeout)
+
+
+def not_reached(address: str, fault: OSError) -> OSError:
+    """Why an address isn't reached, with the address."""
+    if isinstance(fault, socket.gaierror) or fault.errno is None or fault.strerror is None:
+        return ConnectionError(f"{address} can't be reached: {fault}")
+    return OSError(fault.errno, fault.strerror, address)

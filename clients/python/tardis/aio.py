@@ -16,7 +16,7 @@ import time
 from typing import Any, AsyncIterator, Awaitable, Callable, Dict, List, Optional, Sequence, Tuple, TypeVar, Union
 
 from . import questions, requests
-from .addresses import parse_address, parse_timeout
+from .addresses import not_reached, parse_address, parse_timeout
 from .conversation import Answer, Conversation
 from .core import Core, Finished
 from .histories import Difference, History, Items, State
@@ -24,7 +24,7 @@ from .ids import Bytes, StateId, number, prefix_bytes
 from .looking import all_sessions, last_entry
 from .merging import Comparison, Merged, compare, merge
 from .pipelines import Pipeline
-from .refusals import Branches, Disconnected, NoTxn, ProtocolError
+from .refusals import Branches, Disconnected, NoTxn, ProtocolError, TooManyConnections
 from .replies import (
     About, Applied, Batch, Committed, Done, Ended, Keys, Raised, Read, Recorded, Reply, Sessions, Shown, Stat, States, Value)
 from .requests import At, Delivered, Request
@@ -37,6 +37,8 @@ T = TypeVar("T")
 
 #: a second connection is waited for at most so many seconds
 ASIDE = 5.0
+#: so long a server takes at most to end a connection that it turned away, in seconds
+END = 0.2
 
 
 class Transaction:
@@ -128,13 +130,18 @@ class _Link(asyncio.Protocol):
         try:
             self.conversation.take(data)
             self._wake()
-        except ProtocolError as fault:
+        except (ProtocolError, TooManyConnections) as fault:
             self._lose(fault)
 
     def eof_received(self) -> None:
         self._lose(self.conversation.ended())
 
     def connection_lost(self, fault: Optional[Exception]) -> None:
+        if isinstance(fault, OSError) and self.transport is not None:
+            # what came before it broke isn't read by the transport any more
+            with contextlib.suppress(OSError, ProtocolError), self.transport.get_extra_info("socket").dup() as rest:
+                rest.setblocking(False)
+                self.conversation.take(rest.recv(1 << 16))
         self._lose(fault or self.conversation.ended())
 
     def _lose(self, fault: BaseException) -> None:
@@ -219,6 +226,10 @@ class Site:
                 await self._link.wait(rest)
                 if self._timeout is not None and conversation.waiting < waiting:
                     end = time.monotonic() + self._timeout
+            if conversation.may_be_turned_away is not None:
+                # a server that has no place for the connection ends it behind its reply; one that has no session for it doesn't
+                with contextlib.suppress(asyncio.TimeoutError):
+                    await self._link.wait(END)
         except BaseException as fault:
             self._break_off(fault, answers)
 
@@ -228,7 +239,8 @@ class Site:
         if isinstance(fault, (asyncio.TimeoutError, TimeoutError)):
             fault = TimeoutError(f"no reply came for {self._timeout} seconds; the connection is closed, so connect anew")
         elif isinstance(fault, OSError) and not isinstance(fault, Disconnected):
-            fault = Disconnected(f"the connection broke ({fault}); connect anew")
+            fault = conversation.turned_away or conversation.may_be_turned_away or Disconnected(
+                f"the connection broke ({fault}); connect anew")
         conversation.break_off(fault, answers)
         self._transport.abort()
         raise fault from None
@@ -251,7 +263,7 @@ class Site:
 
     # sessions
 
-    async def open(self, follow: bool = False) -> StateId:
+    async def open(self, follow: bool = True) -> StateId:
         return await self._run(ask(requests.open_session(follow)))
 
     async def close(self) -> None:
@@ -462,6 +474,8 @@ async def connect(address: str, timeout: Optional[float] = None) -> Site:
         transport, made = await asyncio.wait_for(opening, seconds)
     except asyncio.TimeoutError:
         raise TimeoutError(f"{address} wasn't reached within {seconds} seconds") from None
+    except OSError as fault:
+        raise not_reached(address, fault) from None
     assert isinstance(transport, asyncio.Transport)
     stream = transport.get_extra_info("socket")
     if stream is not None and not isinstance(place, str):

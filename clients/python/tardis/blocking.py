@@ -9,7 +9,7 @@ import time
 from typing import Any, Callable, Dict, Iterator, List, Optional, Sequence, Tuple, TypeVar, Union
 
 from . import questions, requests
-from .addresses import parse_address, parse_timeout
+from .addresses import not_reached, parse_address, parse_timeout
 from .conversation import Answer
 from .core import Core, Finished
 from .histories import Difference, History, Items, State
@@ -17,7 +17,7 @@ from .ids import Bytes, StateId, number, prefix_bytes
 from .looking import all_sessions, last_entry
 from .merging import Comparison, Merged, compare, merge
 from .pipelines import Pipeline
-from .refusals import Branches, Disconnected, NoTxn, ProtocolError
+from .refusals import Branches, Disconnected, NoTxn, ProtocolError, TooManyConnections
 from .replies import (
     About, Applied, Batch, Committed, Done, Ended, Keys, Raised, Read, Recorded, Reply, Sessions, Shown, Stat, States, Value)
 from .requests import At, Delivered, Request
@@ -33,6 +33,8 @@ AT_ONCE = 16_384
 PIECE = 1 << 18
 #: a second connection is waited for at most so many seconds
 ASIDE = 5.0
+#: so long a server takes at most to end a connection that it turned away, in seconds
+END = 0.2
 
 
 class Transaction:
@@ -150,8 +152,26 @@ class Site:
                 self._read_all()
             else:
                 self._read_while_writing(data)
+            if conversation.may_be_turned_away is not None:
+                self._wait_for_the_end()
         except BaseException as fault:
             self._break_off(fault, answers)
+
+    def _wait_for_the_end(self) -> None:
+        """A server that has no place for the connection ends it behind its reply; one that has no session for it doesn't."""
+        self._stream.settimeout(END)
+        with contextlib.suppress(socket.timeout, TimeoutError):
+            self._take(self._stream.recv(PIECE))
+
+    def _last_words(self) -> Optional[TooManyConnections]:
+        """Where the server ended the connection: whether it had no place for it, which it says before it ends it."""
+        conversation = self._core.conversation
+        try:
+            self._stream.setblocking(False)
+            conversation.take(self._stream.recv(PIECE))
+        except (OSError, ProtocolError):
+            pass
+        return conversation.turned_away or conversation.may_be_turned_away
 
     def _check_quiet(self) -> None:
         """Nothing has come that nobody asked for, nor has the site ended the connection meanwhile."""
@@ -165,7 +185,7 @@ class Site:
         if isinstance(fault, (socket.timeout, TimeoutError)):
             fault = TimeoutError(f"no reply came for {self._timeout} seconds; the connection is closed, so connect anew")
         elif isinstance(fault, OSError) and not isinstance(fault, Disconnected):
-            fault = Disconnected(f"the connection broke ({fault}); connect anew")
+            fault = self._last_words() or Disconnected(f"the connection broke ({fault}); connect anew")
         conversation.break_off(fault, answers)
         self._stream.close()
         raise fault from None
@@ -233,9 +253,10 @@ class Site:
 
     # sessions
 
-    def open(self, follow: bool = False) -> StateId:
-        """Opens this client's session, and gives its ceiling. With `follow` the ceiling moves along with each commit, and with
-        each transaction that only read, so that the site may collect what lies above it."""
+    def open(self, follow: bool = True) -> StateId:
+        """Opens this client's session, and gives its ceiling. A session follows: its ceiling moves along with each commit, and with
+        each transaction that only read, so that the site may collect what lies above it. With `follow=False` it may read for as long
+        as it is open whatever is kept now, and the site keeps that."""
         return self._run(ask(requests.open_session(follow)))
 
     def close(self) -> None:
@@ -486,6 +507,8 @@ def connect(address: str, timeout: Optional[float] = None) -> Site:
         return Site(_unix_stream(place, seconds) if isinstance(place, str) else _tcp_stream(place, seconds), seconds, address)
     except socket.timeout:
         raise TimeoutError(f"{address} wasn't reached within {seconds} seconds") from None
+    except OSError as fault:
+        raise not_reached(address, fault) from None
 
 
 def _tcp_stream(place: Tuple[str, int], timeout: Optional[float]) -> socket.socket:

@@ -7,8 +7,8 @@ wrong in the midst of one, the conversation is over and says so.
 from collections import deque
 from typing import Any, Callable, Deque, Generic, Optional, Sequence, TypeVar
 
-from .codes import QuestionCode
-from .refusals import FORK_POINTS, Disconnected, NoMemory, ProtocolError, Refused, TooMany
+from .codes import QuestionCode, RequestCode
+from .refusals import FORK_POINTS, Disconnected, NoMemory, ProtocolError, Refused, SessionsFull, TooMany, TooManyConnections
 from .replies import LONGEST_FRAME, Reply, read_reply
 from .requests import Request, frame
 
@@ -19,6 +19,10 @@ T = TypeVar("T")
 #: the codes of questions, and of what is told to them, begin here
 FIRST_QUESTION = bytes((min(QuestionCode),))
 ASKS_BASE = bytes((QuestionCode.BASE,))
+OPENS = bytes((RequestCode.OPEN,))
+#: how the one frame begins that a server sends to a connection for which it has no place: its length, and `refused connectionsfull`,
+#: or of an older server `refused sessionsfull`
+TURNED_AWAY = (b"\0\0\0\x06\x15\x1e", b"\0\0\0\x04\x15\x04")
 
 
 class Answer(Generic[T]):
@@ -76,6 +80,11 @@ class Conversation:
         self._waiting: Deque[Answer[Any]] = deque()
         self._held = bytearray()
         self._why: Optional[str] = None
+        self._is_answered = False
+        #: set where the server turned the connection away
+        self.turned_away: Optional[TooManyConnections] = None
+        #: set where it may have: the first reply was that there are too many, and whether of sessions or of connections the end tells
+        self.may_be_turned_away: Optional[TooManyConnections] = None
 
     @property
     def waiting(self) -> int:
@@ -91,6 +100,8 @@ class Conversation:
         if self._why is not None:
             for answer in answers:
                 answer.error = Disconnected(f"this wasn't sent, since {self._why}; connect anew")
+            if self.turned_away is not None:
+                raise self.turned_away
             raise Disconnected(f"this connection is closed, since {self._why}; connect anew")
 
     def ask(self, answers: Sequence[Answer[Any]]) -> bytes:
@@ -110,25 +121,41 @@ class Conversation:
                 raise ProtocolError(f"a frame of {length:,} bytes is too long")
             if end - place - 4 < length:
                 break
-            if not self._waiting:
-                raise ProtocolError("a reply came that nobody asked for")
             self._give(bytes(self._held[place + 4:place + 4 + length]))
             place += 4 + length
         if place:
             del self._held[:place]
-        if self._held and not self._waiting:
+        is_turned_away = not self._is_answered and any(begin.startswith(self._held[:len(begin)]) for begin in TURNED_AWAY)
+        if self._held and not self._waiting and not is_turned_away:
             raise ProtocolError("a reply came that nobody asked for")
 
     def _give(self, body: bytes) -> None:
-        reply = read_reply(body)
+        asked = self._waiting[0].request.body[:1] if self._waiting else b""
+        try:
+            reply = read_reply(body)
+        except TooManyConnections as fault:
+            if self._is_answered:
+                raise ProtocolError("a connection was turned away that was taken") from None
+            self.turned_away = fault
+            raise
+        if isinstance(reply, SessionsFull) and not self._is_answered and asked != OPENS:
+            self.turned_away = TooManyConnections(reply.sessions)
+            raise self.turned_away
+        if not self._waiting:
+            raise ProtocolError("a reply came that nobody asked for")
+        is_first, self._is_answered = not self._is_answered, True
+        self.may_be_turned_away = TooManyConnections(reply.sessions) if is_first and isinstance(reply, SessionsFull) else None
         answer = self._waiting[0]
-        _check_told(answer.request.body[:1], body[:1], reply)
+        _check_told(asked, body[:1], reply)
         answer.give(reply)
         self._note(answer.request, reply)
         self._waiting.popleft()
 
     def ended(self) -> Disconnected:
         """What is to be raised where the other end sends no more."""
+        if self.may_be_turned_away is not None and not self._held:
+            self.turned_away = self.may_be_turned_away
+            return self.turned_away
         cut = " in the midst of a reply" if self._held else ""
         come = f", with {self.waiting} replies to come" if self.waiting else ""
         return Disconnected(f"the site ended the connection{cut}{come}; connect anew")

@@ -4,11 +4,11 @@ their answers, and ends with what the call gives. `blocking` and `aio` are thin 
 from typing import Any, Dict, Generator, List, NamedTuple, Optional, Sequence, Tuple, Union
 
 from . import looking, requests
-from .codes import RequestCode
+from .codes import QuestionCode, RequestCode
 from .conversation import Answer, Conversation
 from .histories import Difference, History, Items, Records, State, at_or_above
 from .ids import ROOT, Bytes, StateId, state_id
-from .looking import Asking, Walk
+from .looking import Asking, Kept, Walk
 from .refusals import CeilingBack, Collected, NoMemory, Refused, Unsupported
 from .replies import Begun, Closed, Committed, Ended, Merging, Opened, Record, Reply, Shown, Stat, States
 from .requests import At, Request
@@ -41,6 +41,11 @@ def _by_paths(id: StateId, shows: Dict[StateId, Shown]) -> List[StateId]:
             if not any(shown.arrival < later.arrival and set(later.path).issuperset(shown.path) for _, later in before)]
 
 
+def _between(seen: Sequence[int], counts: Sequence[int]) -> List[StateId]:
+    """The states that each site made since it had made so many."""
+    return [StateId(site, sequence) for site, (old, count) in enumerate(zip(seen, counts), 1) for sequence in range(old + 1, count + 1)]
+
+
 class Core:
     """One client: its conversation, and what it knows of its session."""
 
@@ -56,6 +61,8 @@ class Core:
         self.records = Records()
         #: what questions were answered
         self.asking = Asking()
+        #: the kept states, as far as questions told of them
+        self.kept = Kept(self.asking)
 
     def _note(self, request: Request[Any], reply: Reply) -> None:
         """Sees each request and its reply."""
@@ -108,7 +115,7 @@ class Core:
             yield from self._follow(ended)
             return Finished(None, (), False, ())
         leaves = States(0, ()) if leaving.error is not None else leaving.result()
-        if leaves.total <= 1:
+        if leaves.first in ((), (ended.id,)):
             return Finished(ended.id, ended.parents, False, ())
         forked = yield from self._is_later_child(ended)
         beside = yield from self._beside(ended.id, leaves)
@@ -159,22 +166,34 @@ class Core:
             page = yield from ask(requests.conflicts(page.first[-1]))
         return keys
 
-    # the history
+    # what is known of the history
 
-    def pull_news(self) -> Steps[Tuple[Stat, List[Record]]]:
-        """Asks for all records that aren't known here yet. Where floors moved it asks for all that aren't closed."""
+    def learn(self) -> Steps[Stat]:
+        """Learns all records that aren't known here yet: by questions, or of a server that answers none by Pull."""
+        stat = yield from ask(requests.stat())
+        if not self.asking.is_unanswered(QuestionCode.RECORD):
+            leaves = yield from ask(requests.leaves())
+            if (yield from self.kept.look(stat, leaves.first)):
+                told = self.kept.told
+                found = yield from self.asking.records({id: told[id] for id in told if id != ROOT})
+                self.records.learn([(told[id].arrival, record) for id, record in found.items()])
+                self.records.forget(set(told))
+                return stat
+        return (yield from self._pull())
+
+    def _pull(self) -> Steps[Stat]:
+        """Learns by Pull. Where floors moved it asks for all that aren't closed."""
         stat = yield from ask(requests.stat())
         floors = tuple(line.floor for line in stat.sites)
         if floors != self.records.open_floors:
             self.records.open, self.records.open_floors = set(), floors
-        news: List[Record] = []
         while True:
             batch = yield from ask(requests.pull(self.records.counts(len(stat.sites))))
-            news.extend(self.records.add(batch))
+            self.records.add(batch)
             self.records.open.update(record.id for record in batch.records)
             if not batch.records:
                 self.records.forget(self.records.open)
-                return stat, news
+                return stat
 
     def history(self, state: Optional[At] = None) -> Steps[History]:
         """All kept states, or those at or above this one. Where others commit meanwhile it is that of one moment in between, or asks
@@ -183,7 +202,7 @@ class Core:
         if chosen is not None:
             yield from ask(requests.show(chosen))
         for _ in range(5):
-            stat, _ = yield from self.pull_news()
+            stat = yield from self.learn()
             kept = yield from self._kept(stat)
             leaves = yield from ask(requests.leaves())
             after = yield from ask(requests.stat())
@@ -196,7 +215,10 @@ class Core:
         return History(states, leaves.first, stat, self.ceiling, self.records)
 
     def _kept(self, stat: Stat) -> Steps[Dict[StateId, Optional[Shown]]]:
-        """The states that are kept, and what is shown of those that are closed: only these may be collected."""
+        """The states that are kept; of a server that answers no questions also what is shown of those that are closed: only these may
+        be collected."""
+        if self.kept.told:
+            return {id: None if id != ROOT else Shown(0, (), ()) for id in self.kept.told}
         records = self.records
         kept: Dict[StateId, Optional[Shown]] = {id: None for id in records.open}
         parents = [parent for id in records.open for parent in records.records[id].parents]
@@ -230,10 +252,8 @@ class Core:
         """The kept states, those whose records were never told before the others, each with the kept states that lead to it."""
         records = self.records.records
         old = sorted((shown.arrival, id) for id, shown in kept.items() if id not in records and shown is not None)
-        told = yield from self.asking.records([id for _, id in old])
-        ids = [*(id for _, id in old), *(id for id in records if id in kept)]
+        ids = [*(id for _, id in old), *(id for id in self.records.in_order(kept) if id != ROOT)]
         leading = {id: self.records.leading(id, kept) for id in ids if id != ROOT}
-        leading.update({id: record.parents for id, record in told.items() if all(parent in kept for parent in record.parents)})
         unsure = [id for id, found in leading.items() if found is None]
         shows: Dict[StateId, Shown] = {id: shown for id, shown in kept.items() if shown is not None}
         if unsure:
@@ -242,7 +262,7 @@ class Core:
         for id in ids:
             found = leading.get(id, ())
             parents = _by_paths(id, shows) if found is None else found
-            record = records.get(id) or told.get(id)
+            record = records.get(id)
             states.append(State(id, tuple(parents), record.writes if record is not None else () if id == ROOT else None))
         return states
 
@@ -256,11 +276,14 @@ class Core:
         return walk
 
     def _all_leaves(self) -> Steps[Sequence[StateId]]:
-        """The leaves, and where the site lists only some, perhaps other states too: a leaf is a floor, or its record is given by Pull."""
+        """The leaves, and where the site lists only some, perhaps other states too: one that has no kept child; or by Pull, which gives
+        the record of each leaf that is no floor."""
         leaves = yield from ask(requests.leaves())
         if len(leaves.first) == leaves.total:
             return leaves.first
-        yield from self.pull_news()
+        yield from self.learn()
+        if self.kept.told:
+            return [id for id, told in self.kept.told.items() if not told.kept_children]
         records = self.records
         parents = {parent for id in records.open for parent in records.records[id].parents}
         return [*(id for id in records.open if id not in parents), *records.open_floors]
@@ -297,21 +320,29 @@ class Core:
         return (yield from self._pulled()).diff(first, second)
 
     def _pulled(self) -> Steps[History]:
-        """What follows from all that the site gives by Pull."""
-        stat, _ = yield from self.pull_news()
+        """What follows from all that the site tells."""
+        stat = yield from self.learn()
         return History((), (), stat, None, self.records)
 
     def news(self, seen: Optional[List[int]]) -> Steps[Tuple[List[int], List[State]]]:
-        """What came since so many states of each site were seen; the first time, nothing. Of a state that was closed before it
-        was asked for only its name is told."""
+        """What came since so many states of each site were seen; the first time, nothing. Of a state that was collected before it was
+        asked for only its name is told."""
         stat = yield from ask(requests.stat())
-        if [line.count for line in stat.sites] == seen:
+        counts = [line.count for line in stat.sites]
+        if counts == seen:
             return seen, []
-        stat, _ = yield from self.pull_news()
+        new = _between(seen or counts, counts)
+        told = yield from self.asking.recorded(new)
+        if told is None or self.asking.is_unanswered(QuestionCode.RECORD):
+            return (yield from self._pulled_news(seen))
+        records = yield from self.asking.records(told)
+        found = sorted(records, key=lambda id: told[id].arrival)
+        return counts, [*(State(id, (), None) for id in new if id not in records), *(State(*records[id]) for id in found)]
+
+    def _pulled_news(self, seen: Optional[List[int]]) -> Steps[Tuple[List[int], List[State]]]:
+        """The same of a server that answers no questions."""
+        stat = yield from self._pull()
         counts = [max(line.count, known) for line, known in zip(stat.sites, self.records.counts(len(stat.sites)))]
-        new = [StateId(site, sequence) for site, (old, count) in enumerate(zip(seen or counts, counts), 1)
-               for sequence in range(old + 1, count + 1)]
-        missed = [id for id in new if id not in self.records.records]
-        told = yield from self.asking.records(missed)
-        return counts, [*(State(*told[id]) if id in told else State(id, (), None) for id in missed),
+        new = _between(seen or counts, counts)
+        return counts, [*(State(id, (), None) for id in new if id not in self.records.records),
                         *(State(*self.records.records[id]) for id in self.records.in_order(new))]

@@ -2,7 +2,9 @@
 
 import contextlib
 import os
+import secrets
 import shutil
+import stat
 import struct
 from itertools import islice
 from typing import IO, Iterable, List, Tuple
@@ -71,16 +73,20 @@ def put_entries(site: Site, entries: Iterable[Tuple[bytes, bytes]]) -> List[Stat
 
 
 def put_in_place(whole: IO[bytes], path: str) -> None:
-    """Copies what is whole to the path. A file that stood there stays as it was until the new one is on the disk."""
+    """Copies what is whole to the path: to a file beside it first, which takes its name once it is on the disk. So what stood there
+    stays as it was until then, whatever happens. A pipe or a device is written to as it is."""
     whole.seek(0)
     place = os.path.realpath(path)
     if os.path.exists(place) and not os.path.isfile(place):
         with open(place, "wb") as other:
             shutil.copyfileobj(whole, other)
         return
-    part = place + ".part"
+    # (a name that nobody has, so that no other file is lost)
+    part = f"{place}.{secrets.token_hex(4)}.part"
     try:
-        with open(part, "wb") as file:
+        with open(os.open(part, os.O_WRONLY | os.O_CREAT | os.O_EXCL, 0o666), "wb") as file:
+            if os.path.exists(place):
+                os.fchmod(file.fileno(), stat.S_IMODE(os.stat(place).st_mode))
             shutil.copyfileobj(whole, file)
             file.flush()
             os.fsync(file.fileno())
@@ -89,3 +95,8 @@ def put_in_place(whole: IO[bytes], path: str) -> None:
         with contextlib.suppress(FileNotFoundError):
             os.unlink(part)
         raise
+    folder = os.open(os.path.dirname(place), os.O_RDONLY)
+    try:
+        os.fsync(folder)
+    finally:
+        os.close(folder)

@@ -125,28 +125,31 @@ class Records:
             counts[id.site - 1] = max(counts[id.site - 1], id.sequence)
         return counts
 
-    def add(self, batch: Batch) -> List[Record]:
-        """Takes a batch, and tells what was new in it."""
-        new = [record for record in batch.records if record.id not in self.records]
-        for record in new:
+    def add(self, batch: Batch) -> None:
+        """Takes a batch, whose records come in order of arrival."""
+        self.learn(list(enumerate(batch.records, self._came)))
+
+    def learn(self, told: Sequence[Tuple[int, Record]]) -> None:
+        """Takes records that are kept for certain, each with its place in the order of arrival."""
+        new = [(place, record) for place, record in told if record.id not in self.records]
+        for place, record in new:
             self.records[record.id] = record
-            self._place[record.id] = self._came
-            self._came += 1
+            self._place[record.id] = place
+        self._came = max([self._came, *(place + 1 for place, _ in new)])
         if new:
             self._ancestry = None
-        return new
 
     def ancestry(self) -> Ancestry:
         """What follows from the records, until others come."""
         if self._ancestry is None:
-            self._ancestry = Ancestry(self.records)
+            self._ancestry = Ancestry({id: self.records[id] for id in sorted(self.records, key=self._place.__getitem__)})
         return self._ancestry
 
     def forget(self, kept: Set[StateId]) -> None:
         """Forgets the oldest of those that aren't kept for certain, where there are many."""
         if len(self.records) > len(kept) + 2 * MOST_REMEMBERED:
             self._ancestry = None
-            closed = [id for id in self.records if id not in kept]
+            closed = [id for id in self.in_order(self.records) if id not in kept]
             for id in closed[:-MOST_REMEMBERED]:
                 del self.records[id]
                 del self._place[id]

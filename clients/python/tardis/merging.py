@@ -1,17 +1,20 @@
 """Merges of any number of leaves and of conflict keys, as steps over a `Core`."""
 
+from itertools import combinations
 from typing import Any, Dict, List, NamedTuple, Optional, Sequence, Tuple
 
 from . import questions, requests
 from .bases import value_together
 from .conversation import Answer
 from .core import Core
-from .ids import Bytes, StateId, state_id
-from .refusals import Below, Collected, Comparable, NoMemory, Refused, TooMany, Unknown as UnknownState
+from .ids import LONGEST_VALUE, Bytes, StateId, state_id
+from .refusals import Below, Collected, Comparable, NoMemory, Refused, TooMany, Unknown as UnknownState, Unresolved
 from .replies import Committed, Keys, Read, States, Value
 from .requests import At, Request
 from .resolvers import (
-    UNKNOWN, Base, Resolve, Sides, Unknown, is_asked_of_equal_sides, is_asked_of_fork_points, is_asked_of_many_sides)
+    UNKNOWN, Base, Resolve, Sides, Unknown, is_asked_of_equal_sides, is_asked_of_fork_points, is_asked_of_many_sides,
+    is_asked_of_one_fork_point)
+from .rules import Rules
 from .steps import Steps, ask, ask_all, ask_aside
 
 __all__ = ["Comparison", "Conflict", "Merged", "MergeStep", "compare", "merge"]
@@ -20,6 +23,8 @@ __all__ = ["Comparison", "Conflict", "Merged", "MergeStep", "compare", "merge"]
 MOST_WRITES, MOST_STATES, MOST_READS = 64, 8, 256
 #: two branches that parted at more states than these have no base
 MOST_FORKS = 64
+#: rules look at so many of the leaves that arrived last
+MOST_RULED = 16
 
 
 class MergeStep(NamedTuple):
@@ -69,16 +74,20 @@ def merge(core: Core, resolve: Resolve, states: Optional[Sequence[At]]) -> Steps
     chosen = None if states is None else [state_id(state) for state in states]
     merger = _Merger(core, resolve)
     rounds = 1
-    while rounds > 0:
-        rounds -= 1
-        if chosen is None:
-            leaves = yield from ask(requests.leaves())
-            if not merger.steps:
-                rounds = leaves.total // max(1, len(leaves.first))
-            yield from merger.join(leaves.first)
-            rounds = 0 if leaves.total <= len(leaves.first) else rounds
-        else:
-            yield from merger.join(chosen)
+    try:
+        while rounds > 0:
+            rounds -= 1
+            if chosen is None:
+                leaves = yield from ask(requests.leaves())
+                if not merger.steps:
+                    rounds = leaves.total // max(1, len(leaves.first))
+                yield from merger.join(leaves.first)
+                rounds = 0 if leaves.total <= len(leaves.first) else rounds
+            else:
+                yield from merger.join(chosen)
+    except Unresolved as fault:
+        fault.steps = tuple(merger.steps)
+        raise
     return Merged(merger.steps[-1].id, tuple(merger.steps)) if merger.steps else None
 
 
@@ -111,10 +120,16 @@ class _Merger:
         self.core = core
         self.resolve = resolve
         self.steps: List[MergeStep] = []
+        #: who wrote first what the merges so far wrote, where they took a side's value
+        self._origins: Dict[Tuple[StateId, bytes], StateId] = {}
+        self._taken: Dict[bytes, StateId] = {}
 
     def join(self, states: Sequence[StateId]) -> Steps[None]:
         """Joins these states: as many at once as a merge reads where it is known what they have together, else one after
         another, so that each pair has its own base."""
+        if isinstance(self.resolve, Rules):
+            yield from self._join_by_rules(states)
+            return
         if len(states) < 2:
             return
         current, rest = states[0], list(states[1:])
@@ -127,6 +142,30 @@ class _Merger:
                 continue
             for state in group:
                 current = yield from self._join_two(current, state)
+
+    def _join_by_rules(self, states: Sequence[StateId]) -> Steps[None]:
+        """Joins two after another, as a server does: of those that arrived last the first two of which the rules settle each key. Where
+        some stay apart, the first reason is raised once the others are joined."""
+        left = yield from self._by_arrival(states)
+        apart: Dict[Tuple[StateId, ...], Unresolved] = {}
+        while True:
+            pairs = [pair for pair in combinations(left[-MOST_RULED:], 2) if pair not in apart]
+            if not pairs:
+                break
+            self._origins.clear()
+            try:
+                joined = yield from self._join_two(*pairs[0])
+            except Unresolved as fault:
+                apart[pairs[0]] = fault
+                continue
+            left = [*(state for state in left if state not in pairs[0]), joined]
+        faults = [fault for pair, fault in apart.items() if set(pair) <= set(left)]
+        if faults:
+            raise faults[0]
+
+    def _by_arrival(self, states: Sequence[StateId]) -> Steps[List[StateId]]:
+        shown = yield from self.core.show_all(list(dict.fromkeys(states)))
+        return sorted(shown, key=lambda state: shown[state].arrival)
 
     def _join_at_once(self, states: Sequence[StateId]) -> Steps[Optional[StateId]]:
         """Joins these states by one merge. None where it isn't known what they have together, or some stand on one branch."""
@@ -154,19 +193,19 @@ class _Merger:
         if not keys.first:
             return []
         told = yield from self._read_sides(keys.first, states)
-        yield from self.core.pull_news()
+        yield from self.core.learn()
         ancestry = self.core.records.ancestry()
         written: List[Request[None]] = []
         for key, sides in told.items():
             if self._is_settled(key, sides):
-                written.append(_writing(key, next(iter(sides.values()))))
+                written.append(self._writing(key, next(iter(sides.values())), sides))
             elif is_asked_of_many_sides(self.resolve, key):
-                written.append(_writing(key, self.resolve(key, UNKNOWN, sides)))
+                written.append(self._writing(key, self.resolve(key, UNKNOWN, sides), sides))
             else:
                 value = value_together(ancestry, self.resolve, key, states)
                 if isinstance(value, Unknown):
                     return None
-                written.append(_writing(key, value))
+                written.append(self._writing(key, value, sides))
         return written
 
     def _join_two(self, one: StateId, other: StateId) -> Steps[StateId]:
@@ -197,11 +236,11 @@ class _Merger:
                 yield from self.core.give_up()
             raise
         if len(settled) == len(told):
-            return (yield from self._commit([_writing(key, value) for key, value in settled.items()], keys.first))
+            return (yield from self._commit([self._writing(key, value, told[key]) for key, value in settled.items()], keys.first))
         yield from self.core.give_up()
         bases = yield from self._bases([key for key in told if key not in settled], sides, forks)
-        written = [
-            _writing(key, settled[key] if key in settled else self.resolve(key, bases[key], side)) for key, side in told.items()]
+        written = [self._writing(key, settled[key] if key in settled else self.resolve(key, bases[key], side), side)
+                   for key, side in told.items()]
         return (yield from self._commit(written, keys.first, beginning))
 
     def _is_settled(self, key: bytes, sides: Sides) -> bool:
@@ -215,8 +254,24 @@ class _Merger:
         for place, key in enumerate(keys):
             here = dict(zip(sides, reads[place * len(sides):]))
             values = {side: _value_of(read) for side, read in here.items()}
-            told[key] = Sides(values, {side: _writer_of(read) for side, read in here.items()})
+            told[key] = Sides(values, {side: self._writer_of(key, read) for side, read in here.items()})
         return told
+
+    def _writer_of(self, key: bytes, read: Read) -> Optional[StateId]:
+        """Who wrote what is read; of what this call merged, who wrote it first."""
+        writer = getattr(read, "writer", None)
+        return self._origins.get((writer, key), writer) if isinstance(writer, StateId) else None
+
+    def _writing(self, key: bytes, value: Optional[Bytes], sides: Sides) -> Request[None]:
+        """What writes the key's value; which side's value it is, is remembered."""
+        data = value.encode() if isinstance(value, str) else value
+        if isinstance(data, bytes) and len(data) > LONGEST_VALUE:
+            raise Unresolved(key, f"its merged value has {len(data):,} bytes, and a value at most {LONGEST_VALUE:,}: spread it over several keys")
+        self._taken.pop(key, None)
+        writers = [writer for side, writer in sides.writers.items() if writer is not None and sides[side] == data]
+        if writers:
+            self._taken[key] = max(writers)
+        return requests.delete(key) if data is None else requests.put(key, data)
 
     def _commit(self, written: Sequence[Request[None]], keys: Sequence[bytes] = (),
                 beginning: Optional[Request[Any]] = None) -> Steps[StateId]:
@@ -234,6 +289,7 @@ class _Merger:
             raise
         assert isinstance(ended, Committed), "a merge makes a state"
         self.steps.append(MergeStep(ended.id, ended.parents, tuple(keys)))
+        self._origins.update({(ended.id, key): self._taken[key] for key in keys if key in self._taken})
         return ended.id
 
     # what stood where they parted
@@ -248,10 +304,11 @@ class _Merger:
             for fork in forks.first:
                 at_forks.append((yield from self._read_at(fork, keys)))
             reads = {key: [told[key] for told in at_forks] for key in keys}
-        bases = {key: _one_base(reads[key]) for key in keys}
+        bases = {key: UNKNOWN if forks.total > 1 and is_asked_of_one_fork_point(self.resolve, key) else _one_base(reads[key])
+                 for key in keys}
         open_ones = [key for key in keys if bases[key] is UNKNOWN and is_asked_of_fork_points(self.resolve, key)]
         if open_ones and forks.total > 1:
-            yield from self.core.pull_news()
+            yield from self.core.learn()
             ancestry = self.core.records.ancestry()
             bases.update({key: value_together(ancestry, self.resolve, key, forks.first) for key in open_ones})
         return bases
@@ -275,7 +332,7 @@ class _Merger:
         asked: List[Request[Any]] = [requests.begin(state), *[requests.get(key) for key in keys], requests.abort()]
         answers = yield from ask_all(asked)
         if isinstance(answers[0].error, (Below, Collected, UnknownState)):
-            yield from self.core.pull_news()
+            yield from self.core.learn()
             told = {key: self.core.records.read(key, state) for key in keys}
             if None not in told.values():
                 return told
@@ -292,7 +349,7 @@ class _Merger:
         Where the session may not read there any more, it goes along the other branch."""
         turned = False
         while True:
-            yield from self.core.pull_news()
+            yield from self.core.learn()
             branch = self.core.records.apart(goal, current)
             if not branch:
                 return current
@@ -327,18 +384,9 @@ def _value_of(read: Read) -> Optional[bytes]:
     return read.value if isinstance(read, Value) else None
 
 
-def _writer_of(read: Read) -> Optional[StateId]:
-    writer = getattr(read, "writer", None)
-    return writer if isinstance(writer, StateId) else None
-
-
 def _one_base(reads: Sequence[Optional[Read]]) -> Base:
     """What all fork points read, where they read one thing."""
     first = reads[0]
     if first is None or any(read != first for read in reads):
         return UNKNOWN
     return _value_of(first)
-
-
-def _writing(key: bytes, value: Optional[Bytes]) -> Request[None]:
-    return requests.delete(key) if value is None else requests.put(key, value)

@@ -41,7 +41,7 @@ class Pipeline:
     def raw(self, body: bytes) -> Answer[Reply]:
         return self.ask(requests.raw(body))
 
-    def open(self, follow: bool = False) -> Answer[StateId]:
+    def open(self, follow: bool = True) -> Answer[StateId]:
         return self.ask(requests.open_session(follow))
 
     def close(self) -> Answer[None]:

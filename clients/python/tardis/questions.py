@@ -6,7 +6,7 @@ from typing import Callable, Dict, List, Optional, Sequence, Type, TypeVar, Unio
 
 from .codes import QuestionCode
 from .ids import Bytes, StateId, number, prefix_bytes
-from .refusals import Malformed, NoMemory, ProtocolError, Refused, Unsupported
+from .refusals import Malformed, NoMemory, NoQuestions, ProtocolError, Refused
 from .replies import About, Entries, ForkReads, Keys, Read, Recorded, Reply, Sessions
 from .requests import At, Request, body_of, gives, itself, key_field, read_of, state_field
 
@@ -22,12 +22,12 @@ MOST_STATES = 8
 
 class Question(Request[T]):
     """A request that a site answers without a session. A server that answers no questions takes its bytes for malformed: it is told
-    as `Unsupported`, as where questions are answered, and not this one to this client."""
+    as `NoQuestions`."""
 
     __slots__ = ()
 
     def refused(self, why: Union[Refused, NoMemory]) -> Union[Refused, NoMemory]:
-        return Unsupported(self.body[0]) if isinstance(why, Malformed) else why
+        return NoQuestions(self.body[0]) if isinstance(why, Malformed) else why
 
 
 def at(key: Bytes, state: At) -> "Question[Read]":

@@ -4,22 +4,37 @@ A refusal changes nothing, and the connection goes on. After a `ProtocolError`, 
 connection is closed, and whether the last request was carried out isn't known.
 """
 
-from typing import Dict, Tuple, Type
+from typing import Any, Dict, Tuple, Type
 
-from .codes import QuestionCode
+from .codes import QuestionCode, RequestCode
 from .ids import StateId
 
 __all__ = [
     "AlreadyOpen", "BadSite", "BagFull", "Below", "Branches", "CeilingBack", "ClosedParent", "Collected", "Comparable",
-    "ConflictKey", "Disconnected", "FloorBack", "Full", "Held", "Malformed", "NoBranch", "NoMemory", "NoSuchItem", "NoTxn",
-    "NotOpen", "NotRead", "OpenConflict", "OwnItem", "PathFull", "ProtocolError", "Refused", "SeqEnd", "SessionsFull", "TooMany",
-    "TrailFull", "TxnOpen", "Unknown", "Unresolved", "Unsupported", "WrongMode",
+    "ConflictKey", "Disconnected", "FloorBack", "Full", "Held", "Malformed", "NoBranch", "NoMemory", "NoQuestions", "NoSuchItem",
+    "NoTxn", "NotOpen", "NotRead", "OpenConflict", "OwnItem", "PathFull", "ProtocolError", "Refused", "SeqEnd", "SessionsFull",
+    "TooMany", "TooManyConnections", "TrailFull", "TxnOpen", "Unknown", "Unresolved", "Unsupported", "WrongMode",
 ]
 
 Field = object
 
 #: what there may be too many of for a base to be told
 FORK_POINTS = "fork points"
+
+#: the question Life, which asks who a site is
+LIFE = 71
+#: what `tardisd` lets in where it listens for clients (`--clients`), and where for other sites (`--peers`)
+FOR_CLIENTS = {code.value for code in RequestCode if code not in (
+    RequestCode.RAISE, RequestCode.RAISE_AUTO, RequestCode.TIDY, RequestCode.PULL, RequestCode.DELIVER, RequestCode.SETTLE)}
+FOR_CLIENTS |= {code.value for code in QuestionCode if code != QuestionCode.SESSIONS} | {LIFE}
+FOR_PEERS = {RequestCode.STAT.value, RequestCode.PULL.value, QuestionCode.RECORD.value, QuestionCode.SITE.value, LIFE}
+
+
+def operation_words(code: int) -> str:
+    """The name of a request or a question, in words."""
+    names = {LIFE: "life", **{it.value: it.name for it in RequestCode}, **{it.value: it.name for it in QuestionCode}}
+    name = names.get(code, f"number {code}").lower().replace("_", " ")
+    return f"the question '{name}'" if code >= min(QuestionCode) else f"the request '{name}'"
 
 
 class ProtocolError(Exception):
@@ -31,13 +46,27 @@ class Disconnected(ConnectionError):
     and begin with a read."""
 
 
+class TooManyConnections(Disconnected):
+    """The server has as many connections as it may, and turned this one away. Nothing was carried out."""
+
+    def __init__(self, connections: int) -> None:
+        super().__init__(connections)
+        self.connections = connections
+
+    def __str__(self) -> str:
+        return (f"the server has {self.connections:,} connections, which are all that it may: disconnect one, try again later, "
+                "or start the server with a larger --connections")
+
+
 class Unresolved(Exception):
-    """A merge's `resolve` can't say what a key shall have. The merge was given up, and nothing changed."""
+    """A merge's `resolve` can't say what a key shall have. What it was asked for changed nothing; `steps` has what the call merged
+    before."""
 
     def __init__(self, key: bytes, why: str) -> None:
         super().__init__(key, why)
         self.key = key
         self.why = why
+        self.steps: Tuple[Any, ...] = ()
 
     def __str__(self) -> str:
         return f"the key {self.key!r} can't be resolved: {self.why}"
@@ -157,8 +186,9 @@ class Below(Refused):
         self.ceiling = ceiling
 
     def advice(self) -> str:
-        return (f"the state {self.state} lies above {self.ceiling}, where this session promised not to read any more: "
-                "begin at a newer state, or open a session that doesn't follow")
+        return (f"the state {self.state} lies above {self.ceiling}, and this session promised not to begin there any more, or the site "
+                f"did: value_at(key, '{self.state}') reads there for as long as it is kept, and begin() goes on below; who was offline "
+                "since finds in docs/CLIENTS.md, 'A device that is offline', how to merge what it changed")
 
 
 class Comparable(Refused):
@@ -267,7 +297,8 @@ class Collected(Refused):
         self.state = state
 
     def advice(self) -> str:
-        return f"the state {self.state} was collected: what was read there is read at the states below it"
+        return (f"the state {self.state} was collected, since nobody promised to read there any more: begin() goes on at a newer state, "
+                "and leaves() tells the newest; a server that is started with --keep-history collects none")
 
 
 class Full(Refused):
@@ -354,9 +385,22 @@ class Unsupported(Refused):
         self.operation = operation
 
     def advice(self) -> str:
-        questions = {code.value: code.name.capitalize() for code in QuestionCode}
-        what = f"answer the question {questions[self.operation]}" if self.operation in questions else f"carry out the operation {self.operation}"
-        return f"this server doesn't {what} for those who come here"
+        if self.operation in FOR_CLIENTS and self.operation not in FOR_PEERS:
+            here = "this listener is for other sites: --listen or --clients lets it in"
+        elif self.operation in FOR_PEERS and self.operation not in FOR_CLIENTS:
+            here = "this listener is for clients: --listen or --peers lets it in"
+        elif self.operation not in FOR_CLIENTS:
+            here = "this listener is for clients, or for other sites: --listen lets it in"
+        else:
+            here = "this server doesn't know it, or isn't ready for it"
+        return f"{operation_words(self.operation)} was refused, since {here}"
+
+
+class NoQuestions(Unsupported):
+    """`Unsupported`, of a server that answers no questions."""
+
+    def advice(self) -> str:
+        return f"{operation_words(self.operation)} was refused, since this server answers no questions: tardisd does, tardis serve doesn't"
 
 
 class NoSuchItem(Refused):

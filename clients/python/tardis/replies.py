@@ -4,7 +4,7 @@ from typing import Callable, Dict, NamedTuple, Optional, Tuple, TypeVar, Union
 
 from .codes import AnswerCode, ReplyCode
 from .ids import StateId
-from .refusals import FORK_POINTS, REFUSAL_OF, Branches, NoBranch, NoMemory, ProtocolError, Refused
+from .refusals import FORK_POINTS, REFUSAL_OF, Branches, NoBranch, NoMemory, ProtocolError, Refused, TooManyConnections
 
 __all__ = [
     "About", "Absent", "Applied", "Batch", "Begun", "Closed", "Committed", "Consent", "Deleted", "Done", "Early", "Ended", "Entries",
@@ -13,6 +13,8 @@ __all__ = [
 ]
 
 LONGEST_FRAME = 1_048_576
+#: what a server says to a connection for which it has no place; no site is asked, and it comes before any reply
+CONNECTIONS_FULL = 30
 
 T = TypeVar("T")
 
@@ -329,6 +331,8 @@ def _refusal(r: Reader) -> Refused:
     code = r.number(1)
     if code == 15:
         return _branches(r)
+    if code == CONNECTIONS_FULL:
+        raise TooManyConnections(r.number(4))
     if code not in REFUSAL_OF:
         raise ProtocolError(f"no refusal has the number {code}")
     return REFUSAL_OF[code](*(_FIELDS[code](r) if code in _FIELDS else ()))
@@ -393,7 +397,8 @@ _DONE = bytes((ReplyCode.DONE,))
 
 
 def read_reply(body: bytes) -> Reply:
-    """The reply that the body of a frame spells: a value, or a refusal that isn't raised yet."""
+    """The reply that the body of a frame spells: a value, or a refusal that isn't raised yet. That there are too many connections is
+    raised: it is nobody's reply."""
     if body == _DONE:
         return Done()
     r = Reader(body)

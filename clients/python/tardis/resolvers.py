@@ -96,6 +96,11 @@ def is_asked_of_many_sides(resolve: Resolve, key: bytes) -> bool:
     return _says(resolve, "of_many_sides", key)
 
 
+def is_asked_of_one_fork_point(resolve: Resolve, key: bytes) -> bool:
+    """Whether a resolver takes a base for known only where the sides parted at one state."""
+    return _says(resolve, "of_one_fork_point", key)
+
+
 def is_asked_of_fork_points(resolve: Resolve, key: bytes) -> bool:
     """Whether a resolver may be asked what several fork points have together."""
     return _says(resolve, "of_fork_points", key)
@@ -111,12 +116,16 @@ counter: Resolve = ReadyMade(_count, of_equal_sides=True)
 
 def union_of(separator: Bytes) -> Resolve:
     """A set of items with this between each two. What some side added is there; what a side took out of the base is gone.
-    Where the base isn't known, what some side has is there. The items stand in order."""
+    Where the base isn't known, what some side has is there. Items are read in any order, and written ascending, each once, so that the
+    rules `set` and `set3` of a server can read what `union_of(",")` wrote. What all sides deleted stays deleted."""
     between = separator.encode() if isinstance(separator, str) else separator
-    return ReadyMade(lambda key, base, sides: _union(between, base, sides))
+    return ReadyMade(lambda key, base, sides: _union(between, base, sides), of_equal_sides=True)
 
 
-def _union(between: bytes, base: Base, sides: Sides) -> bytes:
+def _union(between: bytes, base: Base, sides: Sides) -> Optional[bytes]:
+    if all(value is None for value in sides.values()):
+        return None
+
     def items(value: Base) -> Set[bytes]:
         return set() if value is None or isinstance(value, Unknown) else {item for item in value.split(between) if item}
 
@@ -125,7 +134,7 @@ def _union(between: bytes, base: Base, sides: Sides) -> bytes:
     return between.join(sorted(set().union(*held) - removed))
 
 
-def _lines(key: bytes, base: Base, sides: Sides) -> bytes:
+def _lines(key: bytes, base: Base, sides: Sides) -> Optional[bytes]:
     merged = _union(b"\n", base, sides)
     ends = any(value is not None and value.endswith(b"\n") for value in sides.values())
     return merged + b"\n" if merged and ends else merged
@@ -235,6 +244,9 @@ class _ByPrefix:
 
     def of_fork_points(self, key: bytes) -> bool:
         return is_asked_of_fork_points(self._of(key), key)
+
+    def of_one_fork_point(self, key: bytes) -> bool:
+        return is_asked_of_one_fork_point(self._of(key), key)
 
 
 def by_prefix(resolvers: Mapping[Bytes, Resolve]) -> Resolve:

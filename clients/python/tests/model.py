@@ -1,16 +1,22 @@
 """A site of one, after `docs/MODEL.md`, that answers frames over a Unix socket: the tests' double of a server, where none is
 built. It refuses what sites refuse most often, and holds no limits but those of a transaction and a merge. It answers questions,
-unless it is told not to: then they are malformed, as to every server but `tardisd`."""
+unless it is told not to: then they are malformed, as to every server but `tardisd`. It may have listeners for clients and for other
+sites beside its own, and a bound on its connections."""
 
 import itertools
 import os
 import socket
 import struct
 import threading
+import time
 
 ROOT = (0, 0)
 NOT_OPEN, ALREADY_OPEN, TXN_OPEN, NO_TXN, WRONG_MODE, TOO_MANY, UNKNOWN, BELOW, COMPARABLE, NOT_READ, CONFLICT_KEY, OPEN_CONFLICT, BRANCHES, \
     CEILING_BACK, FLOOR_BACK, HELD, COLLECTED, BAD_SITE = 2, 3, 5, 6, 7, 8, 9, 10, 11, 12, 13, 14, 15, 16, 17, 18, 19, 23
+
+
+#: what is let in where it listens for clients, and where for other sites (`docs/COMMANDS.md`)
+LET_IN = {"all": set(range(256)), "clients": {*range(1, 13), 16, 17, 18, 21, *range(64, 69), 70, 71}, "peers": {16, 19, 67, 70, 71}}
 
 
 def spelled(id):
@@ -122,10 +128,12 @@ class Model:
 
     # requests
 
-    def answer(self, actor, body):
+    def answer(self, actor, body, role="all"):
         try:
             fields = Fields(body)
             code = fields.number(1)
+            if code not in LET_IN[role]:
+                raise Refusal(27, bytes([code]))
             made = getattr(self, "do_%d" % code, None)
             if made is None or code >= 64 and not self.answers_questions:
                 raise Refusal(1)
@@ -431,28 +439,37 @@ class Model:
 
 
 class ModelServer:
-    """Serves a model to all that come, a thread each."""
+    """Serves a model to all that come, a thread each. `also` has further paths, with what is let in there. Who comes when there are as
+    many connections as there may be is told so, and sent away."""
 
-    def __init__(self, path, answers_questions=True):
+    def __init__(self, path, answers_questions=True, also=(), connections=None, turned_away=b"\0\0\0\x06\x15\x1e\0\0"):
         self.model, self.lock, self.actors = Model(answers_questions), threading.Lock(), itertools.count(1)
-        self.links = []
-        if os.path.exists(path):
-            os.unlink(path)
-        self.listener = socket.socket(socket.AF_UNIX)
-        self.listener.bind(path)
-        self.listener.listen(64)
-        threading.Thread(target=self.accept, daemon=True).start()
+        self.links, self.connections, self.turned_away, self.listeners = [], connections, turned_away, []
+        for place, role in [(path, "all"), *dict(also).items()]:
+            if os.path.exists(place):
+                os.unlink(place)
+            listener = socket.socket(socket.AF_UNIX)
+            listener.bind(place)
+            listener.listen(64)
+            self.listeners.append(listener)
+            threading.Thread(target=self.accept, args=(listener, role), daemon=True).start()
 
-    def accept(self):
+    def accept(self, listener, role):
         while True:
             try:
-                link, _ = self.listener.accept()
+                link, _ = listener.accept()
             except OSError:
                 return
+            if self.connections is not None and len(self.links) >= self.connections:
+                with link:
+                    # (by then who connected goes on)
+                    time.sleep(0.03)
+                    link.sendall(self.turned_away + struct.pack(">H", self.connections))
+                continue
             self.links.append(link)
-            threading.Thread(target=self.serve, args=(link, next(self.actors)), daemon=True).start()
+            threading.Thread(target=self.serve, args=(link, next(self.actors), role), daemon=True).start()
 
-    def serve(self, link, actor):
+    def serve(self, link, actor, role):
         held = b""
         try:
             while True:
@@ -466,7 +483,7 @@ class ModelServer:
                     if len(held) - place - 4 < length:
                         break
                     with self.lock:
-                        reply = self.model.answer(actor, held[place + 4:place + 4 + length])
+                        reply = self.model.answer(actor, held[place + 4:place + 4 + length], role)
                     replies.append(struct.pack(">I", len(reply)) + reply)
                     place += 4 + length
                 held = held[place:]
@@ -475,12 +492,14 @@ class ModelServer:
             pass
         with self.lock:
             self.model.sessions.pop(actor, None)
+            self.links.remove(link)
         link.close()
 
     def stop(self):
         """Ends at once, as a server that is killed."""
-        self.listener.close()
-        for link in self.links:
+        for listener in self.listeners:
+            listener.close()
+        for link in list(self.links):
             try:
                 link.shutdown(socket.SHUT_RDWR)
             except OSError:
@@ -489,7 +508,6 @@ class ModelServer:
 
 if __name__ == "__main__":
     import sys
-    import time
     ModelServer(sys.argv[1])
     print("tardisd: site 1 of 1 listens at unix:" + sys.argv[1], file=sys.stderr, flush=True)
     time.sleep(float(sys.argv[2]) if sys.argv[2:] else 1e9)

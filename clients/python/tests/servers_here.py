@@ -1,6 +1,8 @@
 """The servers that the tests of the client run against: those that were built, and the model in Python."""
 
+import functools
 import os
+import re
 import shutil
 import subprocess
 import sys
@@ -23,6 +25,18 @@ TARDIS = os.environ.get("TARDIS") or os.path.join(TOP, "crates", "tardis", "out"
 
 def is_built(program):
     return os.access(program, os.X_OK)
+
+
+def has_word(word):
+    """Whether `tardisd` has this option: its help names each."""
+    told = subprocess.run([TARDISD, "--help"], stdin=subprocess.DEVNULL, stdout=subprocess.PIPE, stderr=subprocess.STDOUT)
+    return re.search(re.escape(word) + r"(?![-\w])", told.stdout.decode()) is not None
+
+
+@functools.lru_cache(maxsize=None)
+def keeping_history():
+    """The words by which `tardisd` collects nothing by itself: an older one never does, and has no such word."""
+    return ["--keep-history"] if has_word("--keep-history") else []
 
 
 class Process:
@@ -67,7 +81,9 @@ class OfTardisd:
     def start(self, address):
         if not is_built(TARDISD):
             raise unittest.SkipTest("tardisd isn't built")
-        return Process([TARDISD, "--listen", address])
+        return Process([TARDISD, "--listen", address, *keeping_history(), *self.words])
+
+    words = ()
 
 
 class OfServe:
@@ -89,7 +105,12 @@ class OfModel:
     def start(self, address):
         if not address.startswith("unix:"):
             raise unittest.SkipTest("the model listens at a path")
-        return ModelServer(address[len("unix:"):], self.answers_questions)
+        also = {address[len("unix:"):]: role[2:] for role, address in zip(self.words[::2], self.words[1::2])
+                if role in ("--clients", "--peers")}
+        bound = dict(zip(self.words[::2], self.words[1::2])).get("--connections")
+        return ModelServer(address[len("unix:"):], self.answers_questions, also, None if bound is None else int(bound))
+
+    words = ()
 
 
 class OfOldModel(OfModel):
@@ -98,5 +119,5 @@ class OfOldModel(OfModel):
     answers_questions = False
 
 
-__all__ = ["CLIENT", "HERE", "OfModel", "OfOldModel", "OfServe", "OfTardisd", "OverServers", "PATIENCE", "TARDIS", "TARDISD", "TOP", "free_port", "is_built",
-           "tardis"]
+__all__ = ["CLIENT", "HERE", "OfModel", "OfOldModel", "OfServe", "OfTardisd", "OverServers", "PATIENCE", "Process", "TARDIS", "TARDISD", "TOP", "free_port", "has_word", "is_built",
+           "keeping_history", "tardis"]

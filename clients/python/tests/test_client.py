@@ -19,7 +19,7 @@ class Calls(OverServers):
     def two(self):
         self.serve()
         one, other = self.connect(), self.connect()
-        one.open(), other.open()
+        one.open(follow=False), other.open(follow=False)
         return one, other
 
     def test_two_clients_fork_and_merge(self):
@@ -128,9 +128,10 @@ class Calls(OverServers):
         self.assertEqual(other.commit(branches=2).parents, (StateId(1, 2),))
 
     def test_readers_that_follow_move_their_ceilings(self):
+        """And every session follows that isn't told otherwise."""
         self.serve()
         writer, reader = self.connect(), self.connect()
-        writer.open(follow=True), reader.open(follow=True)
+        writer.open(), reader.open()
         for number in range(5):
             with writer.transaction() as txn:
                 txn.put("x", str(number))
@@ -202,7 +203,7 @@ class Calls(OverServers):
     def test_a_base_at_the_floor_is_read_by_another_session(self):
         self.serve()
         one, other = self.connect(), self.connect()
-        one.open(follow=True), other.open(follow=True)
+        one.open(), other.open()
         with one.transaction() as txn:
             txn.put("n", "1")
         for _ in range(2):
@@ -220,7 +221,7 @@ class Calls(OverServers):
 
         async def awaited():
             async with await tardis.aio.connect(self.address, PATIENCE) as third:
-                await third.open(follow=True)
+                await third.open()
                 for site in (one, other):
                     site.begin()
                 for site in (one, other):
@@ -235,13 +236,13 @@ class Calls(OverServers):
     def test_a_history_of_which_states_were_collected(self):
         self.serve()
         site, viewer = self.connect(), self.connect()
-        site.open(follow=True)
+        site.open()
         for number in range(5):
             with site.transaction() as txn:
                 txn.put("x", str(number))
         fork = txn.committed
         with self.connect() as other:
-            other.open()
+            other.open(follow=False)
             with other.transaction(at=fork) as txn:
                 txn.get("x"), txn.put("x", "beside")
         at = fork
@@ -255,7 +256,11 @@ class Calls(OverServers):
         site.tidy()
         leaf = StateId(1, 6)
         history = viewer.history()
-        self.assertEqual([(state.id, state.parents) for state in history], [(fork, ()), (txn.committed, (fork,)), (leaf, (fork,))])
+        states = [(fork, ()), (leaf, (fork,)), (txn.committed, (fork,))]
+        self.assertEqual(sorted((state.id, state.parents) for state in history), states)
+        if self.answers_questions:
+            # and in order of arrival, also the one that no Pull gives
+            self.assertEqual([state.id for state in history], [id for id, _ in states])
         # what a state wrote whose record was never given is told to a question alone, and so are keys of collected states
         writes = (tardis.Write(b"x", b"4"),) if self.answers_questions else None
         self.assertEqual((history[fork].writes, history[leaf].keys, len(history)), (writes, (b"x",), site.stat().kept))
@@ -422,8 +427,8 @@ class Calls(OverServers):
 
         async def story():
             async with await tardis.aio.connect(self.address, PATIENCE) as one, await tardis.aio.connect(self.address, PATIENCE) as other:
-                await one.open(follow=True)
-                await other.open()
+                await one.open()
+                await other.open(follow=False)
                 async with one.transaction() as txn:
                     await txn.put("n", "1")
                 await asyncio.gather(one.begin(), other.begin())

@@ -1,9 +1,11 @@
 """The command for people, `python -m tardis`, and what the page asks."""
 
+import io
 import json
 import os
 import re
 import select
+import shutil
 import subprocess
 import sys
 import tempfile
@@ -12,10 +14,11 @@ import unittest
 import urllib.error
 import urllib.request
 import xml.dom.minidom
+from unittest import mock
 
 from servers_here import CLIENT, PATIENCE, OfModel, OfTardisd, OverServers, tardis
 
-from tardis.exports import write_export  # noqa: E402
+from tardis.exports import put_in_place, write_export  # noqa: E402
 from tardis.layout import lay_out  # noqa: E402
 from tardis.pictures import word  # noqa: E402
 
@@ -33,7 +36,7 @@ class Command(OverServers):
         """A cart of two leaves."""
         self.serve()
         one = self.connect()
-        one.open()
+        one.open(follow=False)
         with one.transaction() as txn:
             txn.put("cart", "tea"), txn.put("n", "1"), txn.put(b"\xff", b"")
         for cart in ("tea,milk", "tea,jam"):
@@ -64,25 +67,42 @@ class Command(OverServers):
 
     def test_changing(self):
         self.fork()
-        self.assertEqual(self.run_it("get", self.address, "cart"), "tea,jam\n")
-        self.assertEqual(self.run_it("get", self.address, "cart", "--at", "1.2"), "tea,milk\n")
+        several = "tardis: there are 2 leaves, 1.2, 1.3, and this is what 1.3 has: --at STATE shows another, and merge joins them\n"
+        for asked, at, told in [(["get", "cart"], [], "tea,jam\n"), (["get", "cart"], ["--at", "1.2"], "tea,milk\n"),
+                                (["keys"], [], "cart = tea,jam\nn = 1\n#ff = \n"), (["keys"], ["--at", "1.1"], "cart = tea\nn = 1\n#ff = \n")]:
+            self.assertEqual(self.run_it(asked[0], self.address, *asked[1:], *at), told)
+            self.assertEqual(self.errors, "" if at else several)
         self.assertEqual(self.run_it("get", self.address, "none", status=1), "")
-        self.assertEqual(self.errors, "tardis: none has no value at 1.3\n")
+        self.assertEqual(self.errors, several + "tardis: none has no value at 1.3\n")
         self.assertEqual(self.run_it("put", self.address, "n", "2"), "committed 1.4 below 1.3\n")
         self.assertEqual(self.run_it("put", self.address, "n", "3", "--at", "1.3"),
                          "committed 1.5 below 1.3\na fork: 1.2, 1.4 stand beside it\n")
         self.run_it("merge", self.address, status=1)
-        self.assertIn("its rule is `refuse`", self.errors)
-        self.run_it("merge", self.address, "--rules", "cart=best", status=1)
-        self.assertIn("a rule is PREFIX=last|count", self.errors)
+        self.assertIn("nobody says what it shall have: give --rules", self.errors)
+        for option, wrong, told in [("--rules", "cart=best", "a rule is PREFIX=last|count"), ("--rules", "cart=text", "a rule is PREFIX=last|count"),
+                                    ("--resolvers", "cart=set", "a resolver is PREFIX=text|lines|union_of")]:
+            self.run_it("merge", self.address, option, wrong, status=1)
+            self.assertIn(told, self.errors)
+        self.run_it("merge", self.address, "--rules", "cart=set", status=1)
+        self.assertEqual(self.errors, "tardis: the key b'cart' can't be resolved: b'tea,milk' is no set: its items don't ascend, or one is empty\n")
         # 1.4 added one to the 1 of 1.3, and 1.5 added two
-        self.assertEqual(self.run_it("merge", self.address, "--rules", "cart=set,n=count").splitlines(), [
+        self.assertEqual(self.run_it("merge", self.address, "--resolvers", "cart=union_of,n=counter").splitlines(), [
             "1.6 joins 1.2, 1.4, 1.5: cart, n"])
         self.assertEqual(self.run_it("keys", self.address), "cart = jam,milk,tea\nn = 4\n#ff = \n")
         self.assertEqual(self.run_it("merge", self.address), "one leaf alone, so there is nothing to merge\n")
-        self.assertEqual(self.run_it("delete", self.address, "cart"), "committed 1.7 below 1.6\n")
+        # what the client wrote a server's rules can read; what they don't settle stays apart, and it is said why
+        for cart, price in (("jam", "1"), ("rice", "2")):
+            self.run_it("put", self.address, "cart", cart, "--at", "1.6")
+        self.assertEqual(self.run_it("merge", self.address, "--rules", "cart=set"), "1.9 joins 1.7, 1.8: cart\n")
+        self.assertEqual(self.run_it("delete", self.address, "cart"), "committed 1.10 below 1.9\n")
         self.run_it("get", self.address, "cart", status=1)
-        self.assertEqual(self.errors, "tardis: cart has no value at 1.7: 1.7 deleted it\n")
+        self.assertEqual(self.errors, "tardis: cart has no value at 1.10: 1.10 deleted it\n")
+        for price in "12":
+            self.run_it("put", self.address, "price", price, "--at", "1.10")
+        self.run_it("put", self.address, "cart", "x", "--at", "1.9")
+        told = self.run_it("merge", self.address, "--rules", "cart=last", status=1)
+        self.assertEqual((told, self.errors), ("1.14 joins 1.11, 1.13: cart\n",
+            "tardis: the key b'price' can't be resolved: no rule's prefix begins it, so its rule is `refuse`\n"))
         self.assertEqual(self.connect().stat().sessions, 0)
 
     def test_exporting(self):
@@ -107,9 +127,19 @@ class Command(OverServers):
             file.write(b"behind")
             file.seek(0)
             self.assertEqual(file.read(), b"before" + spelled + b"behind")
+        # the file that was there stays what it is until the new one is on the disk: its mode, and a link to it
+        os.chmod(path, 0o640)
+        os.symlink(path, path + ".link")
+        with open(path + ".part", "wb") as file:
+            file.write(b"another's")
+        self.run_it("export", self.address, "--at", "1.3", "--out", path + ".link")
+        self.assertEqual((os.path.islink(path + ".link"), os.stat(path).st_mode & 0o777), (True, 0o640))
+        with open(path, "rb") as file:
+            self.assertEqual(file.read(), spelled.replace(b"\0\x08tea,milk", b"\0\x07tea,jam"))
+        self.assertEqual(sorted(name for name in os.listdir(self.folder) if name.startswith("out")), ["out", "out.link", "out.part"])
         # of the one leaf, to standard output
         one = self.connect()
-        one.open()
+        one.open(follow=False)
         one.merge(tardis.last_writer)
         made = subprocess.run([sys.executable, "-m", "tardis", "export", self.address], cwd=CLIENT, stdout=subprocess.PIPE, timeout=60)
         self.assertEqual((made.returncode, made.stdout), (0, spelled.replace(b"\0\x08tea,milk", b"\0\x07tea,jam")))
@@ -145,7 +175,9 @@ class Command(OverServers):
     def test_what_is_wrong_is_told_in_a_line(self):
         self.serve()
         for words, told in [
-                (["stat", "nowhere"], "tardis: an address is unix:PATH or HOST:PORT"), (["stat", "unix:/nowhere/x"], "tardis: [Errno 2]"),
+                (["stat", "nowhere"], "tardis: an address is unix:PATH or HOST:PORT"), (["stat", "unix:/nowhere/x"], "tardis: [Errno 2] No such file or directory: 'unix:/nowhere/x'"),
+                (["stat", "127.0.0.1:1"], "tardis: [Errno 111] Connection refused: '127.0.0.1:1'"),
+                (["stat", "nowhere.invalid:1"], "tardis: nowhere.invalid:1 can't be reached: "),
                 (["show", self.address, "1.9"], "tardis: unknown: this site doesn't know the state 1.9"),
                 (["show", self.address, "1"], "tardis: a state is written SITE.SEQUENCE"),
                 (["put", self.address, "", "v"], "tardis: a key has 1 to 128 bytes")]:
@@ -215,6 +247,39 @@ class Command(OverServers):
             web.kill()
             web.wait()
             web.stdout.close()
+
+
+class InPlace(unittest.TestCase):
+    def test_what_stood_there_stays_until_the_new_one_is_on_the_disk(self):
+        folder = tempfile.mkdtemp()
+        self.addCleanup(shutil.rmtree, folder)
+        path, done = os.path.join(folder, "out"), []
+        real = {name: getattr(os, name) for name in ("fsync", "replace")}
+
+        def noting(name, fails):
+            def call(*words):
+                with open(path, "rb") as file:
+                    done.append((name, file.read()))
+                if fails:
+                    raise OSError(28, "No space left on device")
+                return real[name](*words)
+            return call
+
+        for failing in (None, "fsync", "replace"):
+            with open(path, "wb") as file:
+                file.write(b"old")
+            del done[:]
+            with mock.patch("os.fsync", noting("fsync", failing == "fsync")), mock.patch("os.replace", noting("replace", failing == "replace")):
+                if failing is None:
+                    put_in_place(io.BytesIO(b"new"), path)
+                else:
+                    self.assertRaises(OSError, put_in_place, io.BytesIO(b"new"), path)
+            with open(path, "rb") as file:
+                self.assertEqual(file.read(), b"old" if failing else b"new")
+            self.assertEqual(done[:2], [("fsync", b"old"), ("replace", b"old")][:1 if failing == "fsync" else 2])
+            # and then the folder
+            self.assertEqual(done[2:], [] if failing else [("fsync", b"new")])
+            self.assertEqual(os.listdir(folder), ["out"])
 
 
 class OverTardisd(OfTardisd, Command):

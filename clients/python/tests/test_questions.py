@@ -64,12 +64,18 @@ class Spellings(unittest.TestCase):
             bytes.fromhex(asked), Value(ONE, b"tea")))
 
     def test_what_is_refused(self):
-        for spelled, wanted in [("15 01", tardis.Unsupported(64)), ("15 1b 40", tardis.Unsupported(64)), ("15 13" + "0001 00000001", tardis.Collected(ONE)),
+        for spelled, wanted in [("15 01", tardis.NoQuestions(64)), ("15 1b 40", tardis.Unsupported(64)), ("15 13" + "0001 00000001", tardis.Collected(ONE)),
                                 ("16", tardis.NoMemory())]:
             with self.assertRaises(type(wanted)) as caught:
                 told(questions.at("x", ONE), bytes.fromhex(spelled))
             self.assertEqual(caught.exception.args, wanted.args)
-        self.assertEqual(str(tardis.Unsupported(69)), "unsupported: this server doesn't answer the question Sessions for those who come here")
+        for operation, said in [
+                (69, "the question 'sessions' was refused, since this listener is for clients, or for other sites: --listen lets it in"),
+                (19, "the request 'pull' was refused, since this listener is for clients: --listen or --peers lets it in"),
+                (8, "the request 'begin merge' was refused, since this listener is for other sites: --listen or --clients lets it in"),
+                (71, "the question 'life' was refused, since this server doesn't know it, or isn't ready for it"),
+                (14, "the request 'raise auto' was refused, since this listener is for clients, or for other sites: --listen lets it in")]:
+            self.assertEqual(str(tardis.Unsupported(operation)), "unsupported: " + said)
         with self.assertRaises(tardis.TooMany) as caught:
             told(questions.base("x", [ONE]), bytes.fromhex("15 08 04 00000009"))
         self.assertEqual(caught.exception.fields, ("fork points", 9))
@@ -102,7 +108,7 @@ class Asked(OverServers):
         """A server and a client, and a state at which so many keys have values."""
         self.serve()
         site = self.connect()
-        site.open()
+        site.open(follow=False)
         items = [(b"k%04d" % number, b"%d" % number + b"." * size) for number in range(count)]
         for place in range(0, count, 64):
             with site.pipeline() as line:
@@ -137,7 +143,7 @@ class Asked(OverServers):
     def test_the_site_its_sessions_and_records(self):
         self.serve()
         one, other, asker = self.connect(), self.connect(), self.connect()
-        one.open(), other.open(follow=True)
+        one.open(follow=False), other.open()
         with other.transaction() as txn:
             txn.put("x", "1"), txn.delete("y")
         other.begin()
@@ -170,7 +176,7 @@ class Asked(OverServers):
         # where states were collected it goes on at the forks above
         site.close()
         late = self.connect()
-        late.open(follow=True)
+        late.open()
         late.ceiling(StateId(1, 4)), late.raise_floor(), late.tidy()
         self.assertEqual([(state.id.sequence, state.parents) for state in late.walk()], [
             (5, (THREE, StateId(1, 4))), (4, (TWO,)), (3, (ONE,)), (1, (tardis.ROOT,))])
@@ -181,7 +187,7 @@ class Asked(OverServers):
         """A site lists the first 256 alone."""
         self.serve()
         site = self.connect()
-        site.open()
+        site.open(follow=False)
         with site.pipeline() as line:
             for number in range(260):
                 line.begin(tardis.ROOT), line.get("x"), line.put("x", str(number)), line.commit()
@@ -192,7 +198,7 @@ class Asked(OverServers):
         """Two leaves that share nine last states."""
         self.serve()
         site = self.connect()
-        site.open()
+        site.open(follow=False)
         forks = []
         for number in range(9):
             with site.transaction(at=tardis.ROOT) as txn:
@@ -231,7 +237,7 @@ class Asked(OverServers):
         """The base stands above what the session may read, at a state that is closed, and no record of it is given."""
         self.serve()
         one, other = self.connect(), self.connect()
-        one.open(follow=True), other.open(follow=True)
+        one.open(), other.open()
         for number in ("1", "2", "3"):
             with one.transaction() as txn:
                 txn.put("n", number), txn.put("doc", "a\nb\n")
@@ -275,9 +281,10 @@ class NotAsked(OverServers):
         with site.transaction() as txn:
             txn.put("x", "1")
         for call, name in [
-                (lambda: site.get_at("x", ONE), "At"), (lambda: list(site.scan(ONE)), "Scan"), (lambda: site.record(ONE), "Record"),
-                (lambda: site.base("x", [ONE]), "Base"), (lambda: list(site.walk(ONE)), "Record"), (site.sessions, "Sessions"), (site.about, "Site")]:
-            with self.assertRaisesRegex(tardis.Unsupported, "^unsupported: this server doesn't answer the question %s for" % name):
+                (lambda: site.get_at("x", ONE), "at"), (lambda: list(site.scan(ONE)), "scan"), (lambda: site.record(ONE), "record"),
+                (lambda: site.base("x", [ONE]), "base"), (lambda: list(site.walk(ONE)), "record"), (site.sessions, "sessions"),
+                (site.about, "site")]:
+            with self.assertRaisesRegex(tardis.Unsupported, "^unsupported: the question '%s' was refused, since this server answers no" % name):
                 call()
         self.assertEqual((site.items(ONE), site.keys(ONE), site.diff(tardis.ROOT, ONE)), (
             tardis.Items(((b"x", b"1"),), True), (b"x",), (tardis.Difference(b"x", None, b"1"),)))

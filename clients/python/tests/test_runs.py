@@ -83,7 +83,7 @@ class Run:
     def end(self):
         """All that was added, once all leaves are merged."""
         merger = self.case.connect()
-        merger.open()
+        merger.open(follow=False)
         self.merge(merger)
         if merger.leaves().total > 1:
             return False

@@ -4,6 +4,7 @@ use Rattle.std.specs.Prelude.{filter_map}
 use Rattle.daemon_words.specs.Values.{number_or_none, address_or_none}
 use Rattle.daemon_words.specs.Sockets.{mode_or}
 use Rattle.daemon_words.specs.Ruling.{rules_or_none}
+use Rattle.command_words.specs.Values.{flag}
 
 -- there are no more of them than times that it is given
 pub fewer : (found : List (Option (List ℕ))) → length (filter_map (λ v. v) found) ≤ length found
@@ -35,3 +36,9 @@ rules_or_none_twice [] two = absurd (omega (arith, two))
 rules_or_none_twice (v ∷ []) two = absurd (omega (arith, two))
 rules_or_none_twice (None ∷ w ∷ more) two = refl
 rules_or_none_twice (Some v ∷ w ∷ more) two = refl
+
+pub flag_twice : (found : List (Option (List ℕ))) → 1 < length found → None ≡ flag found
+flag_twice [] two = absurd (omega (arith, two))
+flag_twice (v ∷ []) two = absurd (omega (arith, two))
+flag_twice (None ∷ w ∷ more) two = refl
+flag_twice (Some v ∷ w ∷ more) two = refl

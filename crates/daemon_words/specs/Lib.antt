@@ -5,6 +5,7 @@ pub mod Sockets
 pub mod Fetching
 pub mod Capacity
 pub mod Ruling
+pub mod Collecting
 pub mod Daemons
 pub mod Helps
 pub mod Checks

@@ -10,12 +10,13 @@ ghost use Rattle.daemon_words.specs.Daemons.{Daemon, daemon, daemon_by, daemon_o
 ghost use Rattle.daemon_words.specs.Capacity.{IsCapacity};
 
 use crate::capacity::{Capacity, read_capacity};
+use crate::collecting::read_collects;
 use crate::doors::{DoorPlan, are_doors, doors_of};
 use crate::fetching::{are_peers, peers_of, read_every};
-use crate::ruling::read_rules_text;
+use crate::ruling::{read_join_after, read_rules_text};
 use crate::sockets::{read_idle, read_mode};
 use crate::values::read_address_or_none;
-use command_words::{Place, WordsFault, are_only, read_place, read_tidy};
+use command_words::{Place, WordsFault, are_only, read_place};
 use std::alloc::Global;
 use tardis_base::NoMemory;
 
@@ -41,6 +42,8 @@ pub struct DaemonPlan<'a> {
     pub file: Option<&'a str>,
     /// The text of the rules by which leaves are joined.
     pub rules: Option<&'a str>,
+    /// So many seconds two leaves are left to the site that is to join them.
+    pub join_after: u32,
 }
 
 /// Reads the words behind the name of `tardisd`, where they have the form. Only the lists of doors and of peers take memory. The time is in
@@ -86,6 +89,7 @@ fn plan_of<'a>(
         tidy: asked.tidy,
         file: asked.file,
         rules: asked.rules,
+        join_after: asked.join_after,
     })
 }
 
@@ -100,6 +104,7 @@ pub(crate) struct DaemonAsked<'a> {
     tidy: bool,
     file: Option<&'a str>,
     rules: Option<&'a str>,
+    join_after: u32,
 }
 
 /// Reads the words, where they have the form, and lists no door and no peer.
@@ -125,6 +130,8 @@ fn read_asked(words: &[String]) -> Option<DaemonAsked<'_>>
         "--tidy",
         "--file",
         "--rules",
+        "--keep-history",
+        "--join-after",
     ];
     if !are_only(words, &names) {
         return None;
@@ -148,9 +155,10 @@ fn asked_with(words: &[String], place: Place) -> Option<DaemonAsked<'_>>
     let idle = read_idle(words)?;
     let capacity = read_capacity(words)?;
     let every = read_every(words)?;
-    let tidy = read_tidy(words)?;
+    let tidy = read_collects(words)?;
     let file = read_address_or_none(words, "--file")?;
     let rules = read_rules_text(words)?;
+    let join_after = read_join_after(words)?;
     Some(DaemonAsked {
         place,
         mode,
@@ -160,5 +168,6 @@ fn asked_with(words: &[String], place: Place) -> Option<DaemonAsked<'_>>
         tidy,
         file,
         rules,
+        join_after,
     })
 }

@@ -5,6 +5,7 @@
 
 mod capacity;
 mod checks;
+mod collecting;
 mod daemons;
 mod doors;
 mod fetching;

@@ -68,16 +68,6 @@ impl<R: Drop> FileDisk<R> {
         self.faults
     }
 
-    /// Writes bytes from a place on.
-    fn write(&mut self, place: u64, bytes: &[u8]) -> Result<(), Failed>
-        ensures { HasCause self.old.faults self.new.faults result }
-    {
-        match write_all(&self.file, place, bytes) {
-            Ok(()) => Ok(()),
-            Err(_) => Err(self.fail()),
-        }
-    }
-
     fn fail(&mut self) -> Failed
         ensures rose { Rose self.old.faults self.new.faults }
         ensures later { self.old.faults ≤ self.new.faults }
@@ -88,6 +78,27 @@ impl<R: Drop> FileDisk<R> {
 }
 
 impl<R: Files<File = fs::File> + Eprint + Drop> FileDisk<R> {
+    /// Writes bytes from a place on.
+    fn write(&mut self, place: u64, bytes: &[u8]) -> Result<(), Failed>
+        ensures { HasCause self.old.faults self.new.faults result }
+    {
+        match write_all(&self.file, place, bytes) {
+            Ok(()) => Ok(()),
+            Err(error) => Err(self.fail_by(error.kind())),
+        }
+    }
+
+    /// Counts a fault, and tells on standard error what the system says of it.
+    fn fail_by(&mut self, kind: io::ErrorKind) -> Failed
+        ensures rose { Rose self.old.faults self.new.faults }
+        ensures later { self.old.faults ≤ self.new.faults }
+    {
+        if let Some(path) = &self.path {
+            path.tell_fault(kind);
+        }
+        self.fail()
+    }
+
     /// Tells why the file isn't replaced, unless that was told since one was.
     fn decline(&mut self, kind: io::ErrorKind) -> bool
         ensures answer { result ≡ false }
@@ -140,7 +151,7 @@ impl<R: Files<File = fs::File> + Eprint + Drop> Disk for FileDisk<R> {
         self.was_cut = true;
         match self.file.set_len(len) {
             Ok(()) => Ok(()),
-            Err(_) => Err(self.fail()),
+            Err(error) => Err(self.fail_by(error.kind())),
         }
     }
 
@@ -155,7 +166,7 @@ impl<R: Files<File = fs::File> + Eprint + Drop> Disk for FileDisk<R> {
                 self.was_cut = false;
                 Ok(())
             }
-            Err(_) => Err(self.fail()),
+            Err(error) => Err(self.fail_by(error.kind())),
         }
     }
 

@@ -97,6 +97,32 @@ impl<R: Eprint> FilePath<R> {
         let path = self.path.as_str();
         let _ = self.files.eprintln(NotReplaced { path, kind });
     }
+
+    /// Tells on standard error why the file can't be written.
+    pub(crate) fn tell_fault(&self, kind: io::ErrorKind) {
+        let path = self.path.as_str();
+        let _ = self.files.eprintln(NotWritten { path, kind });
+    }
+}
+
+/// The line that the file at a path can't be written.
+#[derive(Clone, Copy)]
+struct NotWritten<'a> {
+    path: &'a str,
+    kind: io::ErrorKind,
+}
+
+impl fmt::Display for NotWritten<'_> {
+    fn fmt<W: fmt::Write>(&self, f: &mut fmt::Formatter<W>) -> fmt::Result {
+        let NotWritten { path, kind } = *self;
+        match kind {
+            io::ErrorKind::StorageFull => write!(
+                f,
+                "{path}: no space left on the device: make room, and start again"
+            ),
+            kind => write!(f, "{path}: it can't be written: the system says {kind}"),
+        }
+    }
 }
 
 /// The line that no other file is put in the place of the one at a path.

@@ -10,12 +10,16 @@ use disk_store::Store;
 use std::alloc::Global;
 use std::fs::{self, Files, OpenOptions, TryLockError};
 use std::io;
+use std::os::unix::fs::OpenOptionsExt;
 use tardis_io::Failed;
 
 /// How many times a path is opened, where each time another file takes the name before the opened one is locked.
 const TRIES: usize = 3;
 
-/// Opens the system's files as disks. A file that isn't there is made, and its folder is synced, so that it stays. An
+/// The mode of a file that is made: its owner's alone.
+const OWNERS_ALONE: u32 = 0o600;
+
+/// Opens the system's files as disks. A file that isn't there is made, its owner's alone (0600), and its folder is synced, so that it stays. An
 /// opened file is locked until its disk is put back or dropped: a file that is open as a disk elsewhere, in this process
 /// or another, is refused. So is what is no regular file. Each refusal and each error of the system is a counted fault.
 #[derive(Drop)]
@@ -94,7 +98,7 @@ impl<R: Files<File = fs::File> + Eprint + Copy> Store for FileStore<R> {
 /// The file at a path, made where there is none, locked, and with a name that stays; none where somebody else holds it.
 fn open_locked<R: Files<File = fs::File>>(files: &R, path: &str) -> io::Result<Option<fs::File>> {
     let mut how = OpenOptions::new();
-    how.read(true).write(true).create(true);
+    how.read(true).write(true).create(true).mode(OWNERS_ALONE);
     for _ in 0..TRIES {
         let file = open_regular(files, &how, path)?;
         match file.try_lock() {

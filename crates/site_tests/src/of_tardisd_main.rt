@@ -16,10 +16,10 @@ use tardisd_main::{
 /// The place of the site.
 const PLACE: Place = Place { sites: 3, site: 2 };
 
-/// Words of a server with two doors, that fetches from two peers, and for how much it has room.
+/// Words of a server with two doors, that fetches from two peers and joins leaves after a time, and for how much it has room.
 const LINE: &str = concat!(
     "--site 2 --tidy --listen unix:s --peers unix:p --sites 3 --peer unix:k --peer k:1 --every 60 --mode 0660 --idle 600 ",
-    "--connections 5 --states 65000 --sessions 4096"
+    "--connections 5 --states 65000 --sessions 4096 --rules k/=set --join-after 9"
 );
 
 const CAPACITY: Capacity = Capacity {
@@ -62,7 +62,7 @@ fn are_peers(peers: &[&str]) -> bool {
 
 /// Whether a plan is to collect states at the place, to listen at the doors and to fetch from the peers.
 fn is_planned(plan: &DaemonPlan<'_>) -> bool {
-    let is_fetching = are_peers(plan.peers.as_slice()) && plan.every == 60;
+    let is_fetching = are_peers(plan.peers.as_slice()) && plan.every == 60 && plan.join_after == 9;
     let is_of_sockets = plan.mode == 0o660 && plan.idle == Some(600);
     let is_of_site = plan.place == PLACE && plan.tidy && plan.capacity == CAPACITY;
     are_these(plan.doors.as_slice()) && is_of_site && is_fetching && is_of_sockets
@@ -85,9 +85,11 @@ fn are_refused(alloc: Global, words: &[String]) -> bool {
 }
 
 /// Words that have no form: without a door; an option that speaks of something which isn't there; a mode or a number of no range; a
-/// peer without a path; a number that is there twice; and a sixteenth peer.
-const UNPLANNED: [&str; 15] = [
+/// peer without a path; a number that is there twice; a sixteenth peer; and two options that contradict each other.
+const UNPLANNED: [&str; 17] = [
     "--sites 2",
+    "--listen h:1 --tidy --keep-history",
+    "--listen h:1 --join-after 5",
     "--listen unix:s --every 5",
     "--listen h:1 --mode 0600",
     "--listen unix:s --mode 0680",

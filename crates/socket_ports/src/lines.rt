@@ -54,7 +54,7 @@ impl Line {
         }
     }
 
-    /// Begins a call. Nothing waits for it.
+    /// Begins a call, and doesn't wait for what comes of it; but while the system looks up a host's name the whole server waits.
     pub(crate) fn call(&mut self, net: &impl Net, registry: &Registry) {
         self.fault = None;
         self.link = match self.begin(net, registry) {

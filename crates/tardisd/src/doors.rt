@@ -1,7 +1,7 @@
 //! The real edge: doors, which say where they listen, and connections to peers.
 
 use crate::peers::PeersTold;
-use crate::words::{Faulty, Reading, Served};
+use crate::words::{Faulty, Joins, Reading, Served};
 use daemon_words::{DaemonPlan, DoorPlan};
 use socket_ports::{Door, DoorFault, RoomPlan, SocketPorts, open_door, path_of};
 use std::net::SocketAddr;
@@ -166,6 +166,9 @@ impl<'a> Doors for SocketDoors<'a> {
         };
         // where standard error is closed, nobody waits for the line
         let _ = self.rt.eprintln(served);
+        if let Some(rules) = plan.rules {
+            let _ = self.rt.eprintln(Joins { rules });
+        }
     }
 }
 

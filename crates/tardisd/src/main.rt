@@ -9,25 +9,52 @@ ghost use Rattle.tardisd_main.specs.Ends.{end_number};
 
 mod doors;
 mod files;
+mod options;
 mod peers;
 mod words;
 
 use disk_forms::FileStore;
 use doors::SocketDoors;
 use files::tell_unopened;
+use options::tell_unknown;
 use std::alloc::Global;
 use std::env::{self, Args};
 use std::hash::RandomState;
 use std::io;
 use std::process::ExitCode;
 use std::random::RandomSource;
+use std::thread;
+use std::time::Duration;
 use tardis_io::{StdOut, WriteFault, write_all};
 use tardisd_main::{DaemonEnd, FileFault, carry_out};
 
 fn main(rt: HostRuntime) -> ExitCode {
-    let output = StdOut::new(rt.stdout());
-    let (ended, is_told) = run(&rt, rt.alloc(), asked(&rt), output);
+    let mut output = StdOut::new(rt.stdout());
+    let (ended, is_told) = run(&rt, rt.alloc(), &mut output);
     end(&rt, ended, is_told)
+}
+
+/// So many times it is tried once more to open a file that another server has: one that was killed may still hold it.
+const TRIES: u32 = 10;
+
+/// So many milliseconds pass before that is tried again.
+const BETWEEN_TRIES: u64 = 100;
+
+/// Does what the arguments ask for: how it ended, and whether that was told.
+fn run(rt: &HostRuntime, alloc: Global, output: &mut StdOut) -> (DaemonEnd, bool) {
+    for _ in 0..TRIES {
+        let ended = run_once(rt, alloc, asked(rt), output);
+        if !is_held(ended.0) {
+            return ended;
+        }
+        thread::sleep(rt, Duration::from_millis(BETWEEN_TRIES));
+    }
+    run_once(rt, alloc, asked(rt), output)
+}
+
+/// Whether another server has the file.
+fn is_held(ended: DaemonEnd) -> bool {
+    matches!(ended, DaemonEnd::File(FileFault::InUse))
 }
 
 /// What the system gives a program when it starts.
@@ -51,7 +78,7 @@ fn asked(rt: &HostRuntime) -> Result<Given, DaemonEnd> {
             let (keys, life) = (drawn.0, drawn.1);
             Ok(Given { args, keys, life })
         }
-        // a system without random bytes to give is told as one without memory
+        // whatever the reason that the system gives no random bytes, it is told as want of memory
         Err(_) => Err(DaemonEnd::NoMemory),
     }
 }
@@ -64,22 +91,21 @@ fn drawn(rt: &HostRuntime) -> io::Result<(RandomState, [u8; 16])> {
     Ok((keys, life))
 }
 
-/// Does what the arguments ask for, over sockets and files: how it ended, and whether that was told.
-fn run(
+/// Does what the arguments ask for once, over sockets and files: how it ended, and whether that was told.
+fn run_once(
     rt: &HostRuntime,
     alloc: Global,
     given: Result<Given, DaemonEnd>,
-    output: StdOut,
+    output: &mut StdOut,
 ) -> (DaemonEnd, bool) {
-    let mut output = output;
     match given {
         Ok(given) => {
             let life = given.life;
             let Given { args, keys, .. } = given;
             let mut doors = SocketDoors::new(rt);
             let mut store = FileStore::new(alloc, rt);
-            let ended = carry_out(alloc, keys, life, args, &mut doors, &mut store, &mut output);
-            (tell_check(alloc, ended, &mut output), doors.is_told())
+            let ended = carry_out(alloc, keys, life, args, &mut doors, &mut store, output);
+            (tell_check(alloc, ended, output), doors.is_told())
         }
         Err(ended) => (ended, false),
     }
@@ -103,6 +129,9 @@ fn tell_check(alloc: Global, ended: DaemonEnd, output: &mut StdOut) -> DaemonEnd
 fn end(rt: &HostRuntime, ended: DaemonEnd, is_told: bool) -> ExitCode
     ensures { exit_status result ≡ end_number ended }
 {
+    if ended == DaemonEnd::Usage {
+        tell_unknown(rt);
+    }
     if !is_told && !is_told_by_system(rt, ended) {
         let _ = rt.eprintln(ended);
     }

@@ -66,7 +66,10 @@ impl fmt::Display for Crowded {
         } = *self;
         write!(f, "tardisd: {kept} of {most} states are kept: ")?;
         if !tidy {
-            return write!(f, "nobody collects them: start it again with --tidy");
+            return write!(
+                f,
+                "with --keep-history none is collected: have a client ask for it (kumovasil raise, kumovasil tidy)"
+            );
         }
         match holder {
             Some(holder) => {
@@ -77,7 +80,7 @@ impl fmt::Display for Crowded {
                 }
                 write!(
                     f,
-                    " holds the floor, which has been silent for {} seconds: end it, or start with --idle SECONDS",
+                    " holds the floor, which has been silent for {} seconds: have it end, or move on",
                     holder.seconds
                 )
             }

@@ -45,6 +45,39 @@ impl Served<'_, '_> {
     }
 }
 
+/// The line that branches are joined by rules, and by which those keys that have none of their own.
+#[derive(Clone, Copy)]
+pub(crate) struct Joins<'a> {
+    pub(crate) rules: &'a str,
+}
+
+impl fmt::Display for Joins<'_> {
+    fn fmt<W: fmt::Write>(&self, f: &mut fmt::Formatter<W>) -> fmt::Result {
+        match self.rule_of_others() {
+            Some(rule) => write!(
+                f,
+                "tardisd: joins branches by rules; keys without a rule of their own by {rule}"
+            ),
+            None => write!(
+                f,
+                "tardisd: joins branches by rules; not where keys conflict that have no rule"
+            ),
+        }
+    }
+}
+
+impl<'a> Joins<'a> {
+    /// The rule of all keys that begin with no other prefix, if there is one.
+    fn rule_of_others(&self) -> Option<&'a str> {
+        for rule in self.rules.split(',') {
+            if let Some(name) = rule.strip_prefix('=') {
+                return Some(name);
+            }
+        }
+        None
+    }
+}
+
 /// Writes where a door is, and for whom unless it is for all.
 fn write_door<W: fmt::Write>(
     f: &mut fmt::Formatter<W>,

@@ -1,11 +1,11 @@
 -- What is served from a site.
-use Rattle.std.specs.Prelude.{ℕ, Bool, true, false, List, [], ◌∷◌, ◌++◌, length, Option, Some, None}
+use Rattle.std.specs.Prelude.{ℕ, ◌*◌, max, Bool, true, false, List, [], ◌∷◌, ◌++◌, length, Option, Some, None}
 use Rattle.tardis_base.specs.Plain.{Event}
 use Rattle.tardis_base.specs.declared.requests.Request.TheVariants.{Stat, RaiseAuto, Tidy}
 use Rattle.tardis_base.specs.declared.replies.Reply.TheVariants.{Tidied}
 use Rattle.wire_talk.specs.Spellings.{request_spelling, reply_spelling}
 use Rattle.wire_lives.specs.declared.life_codes.TheConstants.{BEGIN_LIFE}
-use Rattle.join_rules.specs.declared.join_codes.TheConstants.{JOIN, JOINED, LEFT}
+use Rattle.join_rules.specs.declared.join_codes.TheConstants.{JOIN, JOINED, LEFT, FOR_OTHERS}
 use Rattle.daemon_words.specs.Daemons.{Daemon, daemon_limits}
 use Rattle.hub.specs.declared.ports.Scope.{Scope}
 use Rattle.hub.specs.declared.ports.Seen.{Seen}
@@ -27,7 +27,7 @@ abbrev pub counted_codes : List ℕ
 counted_codes = 8 ∷ 17 ∷ 14 ∷ 21 ∷ []
 
 -- For each 64 replies that count these are asked; and again in the next turn where the last of them was answered so. No reply is empty, so
--- none says that nothing could be done.
+-- none says that nothing could be done, or that others are to do it.
 abbrev pub slow_rule : List (List ℕ) → (full : List ℕ) → UpkeepRule
 slow_rule requests full = record {
   codes = counted_codes;
@@ -37,36 +37,51 @@ slow_rule requests full = record {
   full = full;
   idle = [];
   later = 64;
+  held = [];
+  soon = 18446744073709551615;
+  late = [];
+  wait = 1;
 }
 
 -- which session's ceiling is the oldest, and how much is kept: the edge is told of both, so it knows the one when it is told the other
 abbrev pub watching : List (List ℕ)
 watching = (OLDEST ∷ []) ∷ request_spelling Stat ∷ []
 
--- These are asked alone; or with `--tidy` the floor is raised behind them and then up to 64 states are collected, and again in the next turn
+-- These are asked alone; or where the site collects the floor is raised behind them and then up to 64 states are collected, and again in the next turn
 -- where as many were.
 abbrev pub tidy_rule : (tidy : Bool) → UpkeepRule
 tidy_rule false = slow_rule watching []
 tidy_rule true = slow_rule (watching ++ request_spelling RaiseAuto ∷ request_spelling (Tidy 64) ∷ []) (reply_spelling (Tidied 64))
 
--- After each turn in which a reply was given that counts these are asked; and again behind the next turn where the last of them joined two
--- leaves. Where it left leaves apart, they are asked again once 64 replies were given that count.
-abbrev pub joining_rule : List (List ℕ) → UpkeepRule
-joining_rule requests = record {
+-- the request to join two leaves by rules, those of other sites too after so many waits
+abbrev pub join_request : (waits : ℕ) → (rules : List ℕ) → List ℕ
+join_request waits rules = JOIN ∷ waits ∷ rules
+
+-- After each turn in which a reply was given that counts these are asked, and then two leaves are joined by rules; and again behind the
+-- next turn where two were. Where leaves stay apart, they are asked again once 64 replies were given that count, or one and a second has
+-- passed. Leaves that another site is to join wait for it for so many seconds, or twice as many, by how near this site is to their join.
+abbrev pub joining_rule : List (List ℕ) → (rules : List ℕ) → (join_after : ℕ) → UpkeepRule
+joining_rule requests rules join_after = record {
   codes = counted_codes;
   after = 1;
   pays = 4294967295;
-  requests = requests;
+  requests = requests ++ join_request 0 rules ∷ [];
   full = JOIN ∷ JOINED ∷ [];
   idle = JOIN ∷ LEFT ∷ [];
   later = 64;
+  held = JOIN ∷ FOR_OTHERS ∷ [];
+  soon = 1000;
+  late = join_request 1 rules ∷ join_request 2 rules ∷ [];
+  wait = max 1 (1000 * join_after);
 }
 
--- With rules two leaves are joined by them; with `--tidy` too the floor is raised before that, and up to 4,096 states are collected.
-abbrev pub upkeep_rule : (tidy : Bool) → (rules : Option (List ℕ)) → Option UpkeepRule
-upkeep_rule tidy None = Some (tidy_rule tidy)
-upkeep_rule false (Some rules) = Some (joining_rule (watching ++ (JOIN ∷ rules) ∷ []))
-upkeep_rule true (Some rules) = Some (joining_rule (watching ++ request_spelling RaiseAuto ∷ request_spelling (Tidy 4096) ∷ (JOIN ∷ rules) ∷ []))
+-- With rules two leaves are joined by them; where the site collects too the floor is raised before that, and up to 4,096 states are
+-- collected.
+abbrev pub upkeep_rule : (tidy : Bool) → (rules : Option (List ℕ)) → (join_after : ℕ) → Option UpkeepRule
+upkeep_rule tidy None join_after = Some (tidy_rule tidy)
+upkeep_rule false (Some rules) join_after = Some (joining_rule watching rules join_after)
+upkeep_rule true (Some rules) join_after =
+    Some (joining_rule (watching ++ request_spelling RaiseAuto ∷ request_spelling (Tidy 4096) ∷ []) rules join_after)
 
 -- with as many connections as are asked for; from the peers that are asked for, and as often as is asked
 abbrev pub scope_of : Daemon → Scope
@@ -88,5 +103,5 @@ asked_site = behind_doors ruled_machine (seen_through ruled_machine site_doors) 
 -- upkeep, the connections and the peers that are asked for, and what the edge saw.
 abbrev pub ServesPlace : Daemon → (life : List ℕ) → End → (before after : Option (List Seen)) → Type 0
 ServesPlace asked life end before after =
-    IsRun asked_site (upkeep_rule asked.tidy asked.rules) (scope_of asked) (λ a. IsSound a.site) (ruled_machine.step (opens_at asked) (begin_life life)) end
+    IsRun asked_site (upkeep_rule asked.tidy asked.rules asked.join_after) (scope_of asked) (λ a. IsSound a.site) (ruled_machine.step (opens_at asked) (begin_life life)) end
     before after

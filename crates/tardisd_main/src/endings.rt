@@ -120,7 +120,7 @@ impl fmt::Display for DaemonEnd {
             DaemonEnd::Told | DaemonEnd::Checked(_) => Ok(()),
             DaemonEnd::Usage => write!(
                 f,
-                "usage: tardisd --listen ADDR | --clients ADDR | --peers ADDR .. [--mode MODE] [--idle SECONDS] [--connections N] [--sessions N] [--states N] [--peer ADDR .. [--every SECONDS]] [--sites M] [--site N] [--tidy] [--file PATH] [--rules RULES] (ADDR is unix:PATH or HOST:PORT), or tardisd --check --file PATH"
+                "usage: tardisd --listen ADDR | --clients ADDR | --peers ADDR .. [--mode MODE] [--idle SECONDS] [--connections N] [--sessions N] [--states N] [--peer ADDR .. [--every SECONDS]] [--sites M] [--site N] [--keep-history] [--file PATH] [--rules RULES [--join-after SECONDS]] (ADDR is unix:PATH or HOST:PORT), or tardisd --check --file PATH"
             ),
             DaemonEnd::WriteFailed => write!(f, "tardisd: write fault"),
             DaemonEnd::NoMemory => write!(f, "tardisd: out of memory"),

@@ -25,14 +25,17 @@ tardisd: serves one site of a branch-and-merge key-value store to many clients
 usage: tardisd DOOR.. [--mode MODE] [--idle SECONDS]
                [--connections N] [--sessions N] [--states N]
                [--peer ADDR.. [--every SECONDS]]
-               [--sites M] [--site N] [--tidy] [--file PATH] [--rules RULES]
+               [--sites M] [--site N] [--keep-history] [--file PATH]
+               [--rules RULES [--join-after SECONDS]]
                             serve at 1 to 8 doors, as site N of M sites (1 of 1),
-                            until it is killed; with --tidy states that nobody
-                            reads at any more are collected; with --file the site
-                            is kept in that file, made where there is none, and
-                            goes on from it at the next start; with --rules two
-                            branches are joined wherever these settle all keys in
-                            which they conflict (docs/RULES.md)
+                            until it is killed; states that nobody reads at any
+                            more are collected, unless --keep-history is said;
+                            with --file the site is kept in that file, made where
+                            there is none, and goes on from it at the next start;
+                            with --rules two branches are joined wherever these
+                            settle all keys in which they conflict, those of other
+                            sites only after 30 seconds, or as many as
+                            --join-after says, from 1 to 86400 (docs/RULES.md)
        tardisd --check --file PATH
                             tell what that file has and whether it is good; it
                             is only read

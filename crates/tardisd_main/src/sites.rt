@@ -1,6 +1,6 @@
 //! One site over the connections of an edge.
 
-ghost use Rattle.std.specs.Prelude.{◌≡◌, ◌⊎◌, ◌∷◌, ◌<◌, ◌≤◌, ◌+◌, ℕ, true, None, Some, length, map, option_map, IfOk, IfSome, OnOk, OnErr};
+ghost use Rattle.std.specs.Prelude.{◌≡◌, ◌⊎◌, [], ◌∷◌, ◌++◌, ◌<◌, ◌≤◌, ◌+◌, ◌*◌, max, ℕ, List, true, None, Some, length, map, option_map, IfOk, IfSome, OnOk, OnErr};
 ghost use Rattle.wire_lives.specs.declared.life_codes.TheConstants.{BEGIN_LIFE};
 ghost use Rattle.hub.specs.Connections.{slots};
 ghost use Rattle.hub.specs.Settlings.{behind_doors};
@@ -9,8 +9,7 @@ ghost use Rattle.hub.specs.Runs.{close, IsRun};
 ghost use Rattle.daemon_words.specs.Daemons.{daemon_of};
 ghost use Rattle.daemon_words.specs.Capacity.{IsCapacity};
 ghost use Rattle.command_words.specs.Places.{IsPlace};
-ghost use Rattle.join_rules.specs.declared.join_codes.TheConstants.{JOIN};
-ghost use Rattle.tardisd_main.specs.Sites.{upkeep_rule, slow_rule, joining_rule, scope_of, begin_life, ServesPlace};
+ghost use Rattle.tardisd_main.specs.Sites.{upkeep_rule, slow_rule, joining_rule, join_request, scope_of, begin_life, ServesPlace};
 
 use daemon_words::{DaemonPlan, MOST_CONNECTIONS};
 use hub::{End, Ports, SLOTS, Scope, Upkeep, serve};
@@ -60,13 +59,18 @@ const TWO_JOINED: [u8; 2] = [join_codes::JOIN, join_codes::JOINED];
 /// The reply that leaves stay apart.
 const LEFT_APART: [u8; 2] = [join_codes::JOIN, join_codes::LEFT];
 
+/// The reply that other sites are to join leaves.
+const FOR_OTHERS: [u8; 2] = [join_codes::JOIN, join_codes::FOR_OTHERS];
+
 /// Serves the connections of an edge as the site at the plan's place, which opens with the root alone and then begins this life: each
 /// connection is an actor, and its requests and questions are answered at its door, as `hub::serve` says. From the plan's peers it fetches as
 /// often as that says. Keys are found by hashing with this seed. For each 64 replies that count the edge is told which session's ceiling is the
 /// oldest, and how much is kept. With `tidy` the floor is raised and up to 64 closed states are collected behind that, as actor 0 would ask it;
 /// and where as many were collected, once more after the next turn of the edge. With rules all this is done, and two leaves are joined by
-/// them, after each turn in which a reply was given that counts; and where they settled no two, once 64 such replies were given. Without
-/// memory for the site or the buffers nothing is done. Of what is asked so the oldest ceiling costs as much as there are open sessions.
+/// them, after each turn in which a reply was given that counts. Where leaves stay apart, that is done again once 64 such replies were
+/// given, or one, and a second has passed. Leaves that another site is to join are joined here once it hasn't for as long as the plan
+/// says, or twice as long. Without memory for the site or the buffers nothing is done. Of what is asked so the oldest ceiling costs as much
+/// as there are open sessions.
 pub fn serve_place<P: Ports>(
     alloc: Global,
     keys: RandomState,
@@ -101,7 +105,7 @@ fn serve_machine<M: Settling, P: Ports>(
     requires capacity { IsCapacity plan.now.capacity }
     requires few { length plan.now.peers.items ≤ 15 }
     ensures served { IfOk result (λ end. (s : M.Plain) → M.stands machine s
-        → IsRun (behind_doors M.plain M.through M.is_settled M.settled) (upkeep_rule plan.now.tidy (option_map (λ word. word.now) plan.now.rules)) (scope_of (daemon_of plan.now)) (λ t. (m : M) × M.stands m t)
+        → IsRun (behind_doors M.plain M.through M.is_settled M.settled) (upkeep_rule plan.now.tidy (option_map (λ word. word.now) plan.now.rules) plan.now.join_after) (scope_of (daemon_of plan.now)) (λ t. (m : M) × M.stands m t)
         (M.plain.step s (begin_life life)) end (P.seen ports.old) (P.seen ports.new)) }
     ensures settled { IfOk result (λ end. end ≡ End.Unsettled → ⊥) }
     ensures nothing { OnErr result (ports.new ≡ ports.old) }
@@ -122,7 +126,7 @@ pub(crate) fn serve_alive<M: Settling, P: Ports>(
     requires capacity { IsCapacity plan.now.capacity }
     requires few { length plan.now.peers.items ≤ 15 }
     ensures served { IfOk result (λ end. (s : M.Plain) → M.stands machine.old s
-        → IsRun (behind_doors M.plain M.through M.is_settled M.settled) (upkeep_rule plan.now.tidy (option_map (λ word. word.now) plan.now.rules)) (scope_of (daemon_of plan.now)) (M.stands machine.new)
+        → IsRun (behind_doors M.plain M.through M.is_settled M.settled) (upkeep_rule plan.now.tidy (option_map (λ word. word.now) plan.now.rules) plan.now.join_after) (scope_of (daemon_of plan.now)) (M.stands machine.new)
         (M.plain.step s (begin_life life)) end (P.seen ports.old) (P.seen ports.new)) }
     ensures unsettled { IfOk result (λ end. end ≡ End.Unsettled → 0 < M.faults machine.new) }
     ensures stands { OnErr result ((s : M.Plain) → M.stands machine.old s → M.stands machine.new s ⊎ M.stands machine.new (M.plain.step s (begin_life life))) }
@@ -150,32 +154,25 @@ fn serve_ruled<M: Settling, P: Ports>(
     requires capacity { IsCapacity plan.now.capacity }
     requires few { length plan.now.peers.items ≤ 15 }
     ensures served { IfOk result (λ end. (s : M.Plain) → M.stands machine.old s
-        → IsRun (behind_doors M.plain M.through M.is_settled M.settled) (upkeep_rule plan.now.tidy (Some rules.now)) (scope_of (daemon_of plan.now))
+        → IsRun (behind_doors M.plain M.through M.is_settled M.settled) (upkeep_rule plan.now.tidy (Some rules.now) plan.now.join_after) (scope_of (daemon_of plan.now))
         (M.stands machine.new) s end (P.seen ports.old) (P.seen ports.new)) }
     ensures unsettled { IfOk result (λ end. end ≡ End.Unsettled → 0 < M.faults machine.new) }
     ensures stands { OnErr result ((s : M.Plain) → M.stands machine.old s → M.stands machine.new s) }
     ensures nothing { OnErr result (ports.new ≡ ports.old) }
     ensures opening { M.opening machine.new ≡ M.opening machine.old }
 {
-    let join = join_request(alloc, rules)?;
+    let join = join_request(alloc, 0, rules)?;
+    let second = join_request(alloc, 1, rules)?;
+    let last = join_request(alloc, 2, rules)?;
+    let late: [&[u8]; 2] = [second.as_slice(), last.as_slice()];
     if plan.tidy {
         let requests: [&[u8]; 5] = [&ASK_OLDEST, &STAT, &RAISE_AUTO, &TIDY_MANY, join.as_slice()];
-        serve(
-            alloc,
-            machine,
-            ports,
-            Some(join_upkeep(&requests)),
-            scope_of(plan),
-        )
+        let upkeep = join_upkeep(&requests, &late, plan.join_after);
+        serve(alloc, machine, ports, Some(upkeep), scope_of(plan))
     } else {
         let requests: [&[u8]; 3] = [&ASK_OLDEST, &STAT, join.as_slice()];
-        serve(
-            alloc,
-            machine,
-            ports,
-            Some(join_upkeep(&requests)),
-            scope_of(plan),
-        )
+        let upkeep = join_upkeep(&requests, &late, plan.join_after);
+        serve(alloc, machine, ports, Some(upkeep), scope_of(plan))
     }
 }
 
@@ -191,12 +188,23 @@ fn slow_upkeep<'a>(requests: &'a [&'a [u8]], full: &'a [u8]) -> Upkeep<'a>
         full,
         idle: &[],
         later: 64,
+        held: &[],
+        soon: u64::MAX,
+        late: &[],
+        wait: 1,
     }
 }
 
-/// The upkeep of a site that joins leaves, which asks these.
-fn join_upkeep<'a>(requests: &'a [&'a [u8]]) -> Upkeep<'a>
-    ensures { rule_of result ≡ joining_rule (map (λ r. r.now) requests.entry.now) }
+/// The upkeep of a site that joins leaves, which asks these, and the late ones in place of the last where other sites don't join what
+/// they are to join for so many seconds.
+fn join_upkeep<'a>(
+    requests: &'a [&'a [u8]],
+    late: &'a [&'a [u8]],
+    join_after: u32,
+) -> Upkeep<'a>
+    ensures { (before : List (List ℕ)) (rules : List ℕ) → map (λ r. r.now) requests.entry.now ≡ before ++ join_request 0 rules ∷ []
+        → map (λ r. r.now) late.entry.now ≡ join_request 1 rules ∷ join_request 2 rules ∷ [] → rule_of result ≡ joining_rule before rules join_after }
+    ensures often { (0 < (rule_of result).after) × (0 < (rule_of result).later) × (0 < (rule_of result).wait) }
 {
     Upkeep {
         codes: &COUNTED,
@@ -206,15 +214,27 @@ fn join_upkeep<'a>(requests: &'a [&'a [u8]]) -> Upkeep<'a>
         full: &TWO_JOINED,
         idle: &LEFT_APART,
         later: 64,
+        held: &FOR_OTHERS,
+        soon: 1_000,
+        late,
+        wait: wait_of(join_after),
     }
 }
 
-/// The request to join leaves by these rules.
-fn join_request(alloc: Global, rules: &str) -> Result<Vec<u8>, NoMemory>
-    ensures { IfOk result (λ request. request.items ≡ JOIN ∷ rules.now) }
+/// So many seconds in milliseconds, one at least.
+fn wait_of(seconds: u32) -> u64
+    ensures wait { result ≡ max 1 (1000 * seconds) }
+{
+    (1_000 * u64::from(seconds)).max(1)
+}
+
+/// The request to join leaves by these rules, after so many waits.
+fn join_request(alloc: Global, waits: u8, rules: &str) -> Result<Vec<u8>, NoMemory>
+    ensures { IfOk result (λ request. request.items ≡ join_request waits rules.now) }
 {
     let mut request = Vec::new(alloc);
     request.push(join_codes::JOIN)?;
+    request.push(waits)?;
     request.extend_from_slice(rules.as_bytes())?;
     Ok(request)
 }
@@ -253,7 +273,7 @@ fn scope_of(plan: &DaemonPlan<'_>) -> Scope
 /// The upkeep of a site without rules.
 fn upkeep_of(tidy: bool) -> Option<Upkeep<'static>>
     ensures rule { option_map rule_of result ≡ upkeep_rule tidy None }
-    ensures often { IfSome (option_map rule_of result) (λ rule. (0 < rule.after) × (0 < rule.later)) }
+    ensures often { IfSome (option_map rule_of result) (λ rule. (0 < rule.after) × (0 < rule.later) × (0 < rule.wait)) }
 {
     if tidy {
         Some(slow_upkeep(&[&ASK_OLDEST, &STAT, &RAISE_AUTO, &TIDY], &FULL))
