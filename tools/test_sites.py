@@ -278,19 +278,25 @@ def come_to_peace(group, checks, last_write, waits=0.0, leaves_left=1):
     before = (last_write, group.look())
     leaves = len(group.all_leaves())
     limit = last_write + group.exchanges * group.exchange + waits + SLACK
-    rows = [before, *group.watch(limit), *group.watch(max(limit, time.monotonic()) + stands_still_for(group), 1)]
+    rows = [before, *group.watch(limit)]
+    # where the machine is so busy that looks come late, all else comes late too
+    late = sum(max(0.0, now[0] - was[0] - 3 * LOOK) for was, now in zip(rows, rows[1:]))
+    limit += 2 * late
+    rows += [*group.watch(limit), *group.watch(max(limit, time.monotonic()) + stands_still_for(group), 1)]
     end = rows[-1]
     joins = made_in(end) - made_in(before)
-    late = made_in(end) - made_in([it for it in rows if it[0] <= limit][-1])
+    too_late = made_in(end) - made_in([it for it in rows if it[0] <= limit][-1])
     last = next((now[0] for was, now in reversed(list(zip(rows, rows[1:]))) if made_in(now) > made_in(was)), last_write)
     there = [it for it in end[1] if it]
     seconds = [next(made_in(it) + 1 for it in reversed(rows) if it[0] - last_write <= second or it is before) for second in range(int(end[0] - last_write) + 1)]
     checks.tell("%d leaves at the last write, states by the second %s; %d joins, the last after %.1f s; leaves left %s, kept %s",
                 leaves, shortened(seconds), joins, last - last_write, "/".join(str(it[3]) for it in there), "/".join(str(it[1]) for it in there))
+    if late > 1:
+        checks.tell("the machine was %.1f s late", late)
     counts = [it.counts() for it in group.sites if not it.is_gone]
     checks.see(all(it == counts[0] for it in counts), "the sites know %s states of each", counts)
     checks.see(joins <= group.exchanges * (leaves + 1), "%d joins behind %d leaves", joins, leaves)
-    checks.see(late == 0, "%d states came later than %.1f s behind the last write", late, limit - last_write)
+    checks.see(too_late == 0, "%d states came later than %.1f s behind the last write", too_late, limit - last_write)
     if leaves_left is None:
         checks.see(joins == 0, "%d joins without rules", joins)
         checks.see(len({it[3] for it in there}) == 1, "the sites have %s leaves", [it[3] for it in there])
