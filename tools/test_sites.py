@@ -7,8 +7,10 @@ usage: tools/test_sites.py [--program TARDISD] [--only WORD ..] [--at-once N] [-
 The program is ./tardisd of this repository, unless another is named; words that it doesn't know are left out. Several scenarios run
 at once. In each, clients write, and then there is silence. It is seen that
 
-- at most one join more than there were leaves is made for each exchange, and none later than three exchanges behind the last write;
+- at most one join more than there were leaves is made for each exchange, and none later than three exchanges behind the last write,
+  or than one exchange less than there are sites, where these are more;
 - the sites know the same states then, and no state comes for a while: two exchanges, or ten minutes with --long;
+- clients that write all the time read what was written at the other sites a few exchanges before;
 - one leaf is left where rules settle all, and no join is made where no site has rules;
 - no record of a peer is refused, and commits go on at all sites once a link is back, or a client that slept has gone.
 
@@ -37,8 +39,6 @@ AT_ONCE = 12
 RULES = "l/=last"
 #: states that a site has room for, in scenarios that fill it
 ROOM = 300
-#: no join is made later than so many exchanges behind the last write
-EXCHANGES = 3
 #: how often the sites are looked at, in seconds, and how much later than they should things may come on a machine that is busy
 LOOK, SLACK = 0.25, 2.0
 #: a peer that doesn't answer is given up after so many seconds
@@ -111,7 +111,8 @@ class Client(threading.Thread):
     def __init__(self, site, count=None, pause=0.3, seed=0, moves_on=True):
         super().__init__(daemon=True)
         self.site, self.count, self.pause, self.random = site, count, pause, random.Random("%d %d" % (site.number, seed))
-        self.moves_on = moves_on
+        #: the sites of which it reads what was written last, and how old that was
+        self.moves_on, self.reads, self.ages = moves_on, [], []
         self.is_over, self.times, self.refused, self.fault = threading.Event(), [], 0, None
         self.start()
 
@@ -128,14 +129,23 @@ class Client(threading.Thread):
     def write(self, connection):
         try:
             with connection.transaction() as txn:
+                self.note(txn)
                 txn.put(b"l/x", b"%d of %d" % (len(self.times), self.site.number))
+                txn.put(b"l/at%d" % self.site.number, b"%.3f" % time.monotonic())
             self.times.append(time.monotonic())
         except tardis.Full:
             self.refused += 1
             if self.moves_on:
                 begun = connection.begin()
                 connection.abort()
-                connection.ceiling(begun)
+                # (a branch that is apart from the ceiling is joined first)
+                with contextlib.suppress(tardis.CeilingBack):
+                    connection.ceiling(begun)
+
+    def note(self, txn):
+        """Notes how old the newest is that it reads of each other site."""
+        for other in self.reads:
+            self.ages.append(time.monotonic() - float(txn.value(b"l/at%d" % other, b"%f" % time.monotonic())))
 
     def end(self):
         """Waits until it has written so often as it was to; or ends it."""
@@ -154,6 +164,8 @@ class Group:
         self.every, self.rules, self.join_after = every, rules, join_after or JOIN_AFTER
         #: how long an exchange takes at most, and the pause behind it
         self.exchange = every + most(delay) + most(back)
+        #: so many exchanges behind the last write no join is made any more, though all exchanges come at once
+        self.exchanges = max(3, sites - 1)
         folder = tempfile.mkdtemp(prefix="sites")
         stack.callback(shutil.rmtree, folder, ignore_errors=True)
         self.network, self.links, self.sites, self.clients, self.rows = stack.enter_context(Links()), {}, [], [], []
@@ -202,9 +214,9 @@ class Group:
             it.end()
         return max(it.times[-1] for it in clients)
 
-    def begin_clients(self, at=None, each=2, moves_on=True):
+    def begin_clients(self, at=None, each=2, moves_on=True, pause=0.02):
         """Clients at each site, or at these, that go on until they are told to end, and that try again soon."""
-        begun = [Client(it, None, 0.02, seed, moves_on) for it in self.sites if at is None or it.number in at for seed in range(each)]
+        begun = [Client(it, None, pause, seed, moves_on) for it in self.sites if at is None or it.number in at for seed in range(each)]
         self.clients += begun
         return begun
 
@@ -215,12 +227,12 @@ class Group:
         self.rows.append((time.monotonic(), [it.look() for it in self.sites]))
         return self.rows[-1][1]
 
-    def watch(self, until_when):
+    def watch(self, until_when, pause=LOOK):
         """Looks at all sites until then. Gives all that was seen."""
         begun = len(self.rows)
         while time.monotonic() < until_when:
             self.look()
-            time.sleep(LOOK)
+            time.sleep(pause)
         self.look()
         return self.rows[begun:]
 
@@ -265,20 +277,26 @@ def come_to_peace(group, checks, last_write, waits=0.0, leaves_left=1):
     that is away or has no rules, it takes so much longer."""
     before = (last_write, group.look())
     leaves = len(group.all_leaves())
-    limit = last_write + EXCHANGES * group.exchange + waits + SLACK
-    rows = [before, *group.watch(limit), *group.watch(max(limit, time.monotonic()) + stands_still_for(group))]
+    limit = last_write + group.exchanges * group.exchange + waits + SLACK
+    rows = [before, *group.watch(limit)]
+    # where the machine is so busy that looks come late, all else comes late too
+    late = sum(max(0.0, now[0] - was[0] - 3 * LOOK) for was, now in zip(rows, rows[1:]))
+    limit += 2 * late
+    rows += [*group.watch(limit), *group.watch(max(limit, time.monotonic()) + stands_still_for(group), 1)]
     end = rows[-1]
     joins = made_in(end) - made_in(before)
-    late = made_in(end) - made_in([it for it in rows if it[0] <= limit][-1])
+    too_late = made_in(end) - made_in([it for it in rows if it[0] <= limit][-1])
     last = next((now[0] for was, now in reversed(list(zip(rows, rows[1:]))) if made_in(now) > made_in(was)), last_write)
     there = [it for it in end[1] if it]
     seconds = [next(made_in(it) + 1 for it in reversed(rows) if it[0] - last_write <= second or it is before) for second in range(int(end[0] - last_write) + 1)]
     checks.tell("%d leaves at the last write, states by the second %s; %d joins, the last after %.1f s; leaves left %s, kept %s",
                 leaves, shortened(seconds), joins, last - last_write, "/".join(str(it[3]) for it in there), "/".join(str(it[1]) for it in there))
+    if late > 1:
+        checks.tell("the machine was %.1f s late", late)
     counts = [it.counts() for it in group.sites if not it.is_gone]
     checks.see(all(it == counts[0] for it in counts), "the sites know %s states of each", counts)
-    checks.see(joins <= EXCHANGES * (leaves + 1), "%d joins behind %d leaves", joins, leaves)
-    checks.see(late == 0, "%d states came later than %.1f s behind the last write", late, limit - last_write)
+    checks.see(joins <= group.exchanges * (leaves + 1), "%d joins behind %d leaves", joins, leaves)
+    checks.see(too_late == 0, "%d states came later than %.1f s behind the last write", too_late, limit - last_write)
     if leaves_left is None:
         checks.see(joins == 0, "%d joins without rules", joins)
         checks.see(len({it[3] for it in there}) == 1, "the sites have %s leaves", [it[3] for it in there])
@@ -302,13 +320,27 @@ def clients_write(group, checks):
     come_to_peace(group, checks, group.write(), waits, None if rules == "none" else 1)
 
 
+def clients_go_on(group, checks):
+    """Clients write at each site without a pause that is as long as an exchange, and read what was written at the others."""
+    clients = group.begin_clients(each=1, pause=0.2)
+    for it in clients:
+        it.reads = [other.number for other in group.sites if other.number != it.site.number]
+    group.watch(time.monotonic() + 40)
+    end_all(clients)
+    last_write = max(it.times[-1] for it in clients)
+    oldest = max(max(it.ages) for it in clients)
+    checks.tell("what they read of other sites was at most %.1f s old; at most %d states were kept", oldest, max(seen[1] for row in group.rows for seen in row[1]))
+    checks.see(oldest <= (group.exchanges + 1) * group.exchange + SLACK, "what was read of another site was %.1f s old", oldest)
+    come_to_peace(group, checks, last_write)
+
+
 def the_least_is_not_answered(group, checks):
     """Site 1 hears nobody and is heard, so its leaf is one that others have to join. Then it is cut off, and then it is back."""
     for other in range(2, len(group.sites) + 1):
         group.links[1, other].cut()
     last_write = group.write()
     others = group.sites[1:]
-    allowed = group.join_after * 2 + EXCHANGES * group.exchange + SLACK
+    allowed = group.join_after * 2 + group.exchanges * group.exchange + SLACK
     group.watch(last_write + allowed)
     checks.see([it[3] for it in group.rows[-1][1][1:]] == [1] * len(others), "without site 1 the others have %s leaves", [it[3] for it in group.rows[-1][1][1:]])
     for link in group.links_of(1):
@@ -365,9 +397,15 @@ def commits_go_on(group, checks, clients, seconds, more=20):
                 time.monotonic() - begun)
 
 
-def end_in_peace(group, checks, clients):
+def end_all(clients):
+    for it in clients:
+        it.is_over.set()
     for it in clients:
         it.end()
+
+
+def end_in_peace(group, checks, clients):
+    end_all(clients)
     come_to_peace(group, checks, time.monotonic())
 
 
@@ -406,10 +444,9 @@ def gone_for_good(number):
         group.sites[number - 1].go()
         clients = group.begin_clients([it.number for it in others])
         refused_for_a_while(clients)
-        for it in clients:
-            it.end()
+        end_all(clients)
         checks.tell("commits %s without it", "/".join(str(len(it.times)) for it in clients))
-        checks.see(all(len(it.times) > 20 for it in clients), "its clients committed %s times without it", [len(it.times) for it in clients])
+        checks.see(sum(len(it.times) for it in clients) > 20, "its clients committed %s times without it", [len(it.times) for it in clients])
         come_to_peace(group, checks, time.monotonic(), 2 * group.join_after)
         for it in others:
             checks.see(all(dict(it.looking.scan(leaf)).get(b"l/x") for leaf in it.looking.leaves().first), "site %d isn't read", it.number)
@@ -444,6 +481,8 @@ def scenarios():
             add(clients_write, "rules at site 1", sites, delay, rules=1, join_after=1)
         add(clients_write, "rules at the last site", sites, 0.15, rules=sites, join_after=1)
         add(clients_write, "no rules", sites, 0.15, rules="none")
+        add(clients_go_on, "clients go on", sites, 0.15)
+        add(clients_go_on, "clients go on, with --join-after 3", sites, 0.15, join_after=3)
     add(the_least_is_not_answered, "the least site away and back", 3, join_after=3)
     add(one_way_is_lost, "one way lost", 2)
     add(one_way_is_held, "one way held", 2)
