@@ -182,14 +182,14 @@ def run(sites, room, share, merge_share, whole, steps, seed):
 def bounds(policy, sites, room):
     if policy == 'none':
         return room, room
-    parts = {'M': sites, '2M-1': 2 * sites - 1, '2M': 2 * sites, '3M': 3 * sites, '4M-3': 4 * sites - 3, '4M': 4 * sites}[policy.rstrip('+')]
+    parts = {'M': sites, '2M-1': 2 * sites - 1, '2M': 2 * sites, '3M': 3 * sites, '4M-3': 4 * sites - 3, '4M': 4 * sites, 'MM': sites * sites}[policy.rstrip('+')]
     share = max(2, room // parts)
     return share, room if policy.endswith('+') else room - share // 2
 
 
 def main():
     count = int(sys.argv[1]) if len(sys.argv) > 1 else 30
-    policies = sys.argv[2:] or ['none', '2M-1', '2M', '3M', '3M+', '4M-3', '4M', '4M+']
+    policies = sys.argv[2:] or ['none', '2M-1', '2M', '3M', '3M+', '4M-3', '4M', '4M+', 'MM']
     for sites, room in ((2, 12), (2, 16), (3, 24), (3, 36), (4, 48), (5, 60)):
         for whole in (True, False):
             for policy in policies:

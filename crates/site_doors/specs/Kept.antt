@@ -26,7 +26,7 @@ resting = record {
 -- the same doors, before the site that is kept
 abbrev pub kept_doors : DoorRules (Kept Acquainted)
 kept_doors = record {
-  lets_in = site_doors.lets_in;
+  lets_in = λ door kept event. site_doors.lets_in door kept.state event;
   answer = λ door kept event. site_doors.answer door kept.state event;
   is_sure = site_doors.is_sure;
 }

@@ -1,8 +1,8 @@
 -- What a site lets in through each of its doors, and what it answers there itself.
-use Rattle.std.specs.Prelude.{ℕ, Bool, true, false, ◌==◌, nat_lt, nat_le, bytes_eq, List, [], ◌∷◌, if◌then◌else◌}
+use Rattle.std.specs.Prelude.{ℕ, Bool, true, false, ◌==◌, ◌&&◌, not, is_none, nat_lt, nat_le, bytes_eq, List, [], ◌∷◌, if◌then◌else◌}
 use Rattle.std.specs.List.{list_any}
 use Rattle.std.specs.Option.{option_map_or}
-use Rattle.tardis_base.specs.declared.replies.Refusal.TheVariants.{Unsupported}
+use Rattle.tardis_base.specs.declared.replies.Refusal.TheVariants.{Unsupported, Full}
 use Rattle.tardis_base.specs.declared.replies.Reply.TheVariants.{Refused}
 use Rattle.wire_talk.specs.declared.request_codes.TheConstants.{OPEN, BEGIN, GET, PUT, DELETE, COMMIT, ABORT, BEGIN_MERGE, FORK_POINTS, CONFLICTS, GET_FOR}
 use Rattle.wire_talk.specs.declared.request_codes.TheConstants.{CEILING, STAT, SHOW, LEAVES, PULL, CLOSE}
@@ -15,6 +15,7 @@ use Rattle.plain_questions.specs.declared.question_codes.TheConstants.{AT, KEYS,
 use Rattle.plain_questions.specs.Readings.{question_of, answer_over_bytes}
 use Rattle.site_questions.specs.Sure.{is_sure_question}
 use Rattle.hub.specs.Doors.{DoorRules}
+use Rattle.site_doors.specs.Room.{bound_reached}
 use Rattle.site_doors.specs.declared.passages.TheConstants.{FOR_ALL, FOR_CLIENTS, FOR_PEERS}
 
 -- ===== What each door is for
@@ -86,11 +87,17 @@ is_sure_body bytes = option_map_or is_sure_question (question_of bytes) true
 abbrev pub is_sure_at : ℕ → List ℕ → Bool
 is_sure_at door bytes = if is_question_at door (code_of bytes) then is_sure_body bytes else true
 
+-- a site whose room is reached refuses the commit, and names the bound
+abbrev pub told_full : ℕ → List ℕ
+told_full bound = reply_spelling (Refused (Full bound))
+
 -- ===== The rules
 
+-- A request with such a code comes in, unless it is a client's commit where as many states are kept as may be then. That is told the bound
+-- which is reached; and what doesn't come in by its code is told at the door. Memory fails no answer that is sure of what has another code.
 abbrev pub site_doors : DoorRules Acquainted
 site_doors = record {
-  lets_in = is_let_in;
-  answer = λ door a event. told_at door a event.1;
-  is_sure = λ door event. is_sure_at door event.1;
+  lets_in = λ door a event. is_let_in door event.1 && is_none (bound_reached a.site event);
+  answer = λ door a event. if is_let_in door event.1 then option_map_or told_full (bound_reached a.site event) [] else told_at door a event.1;
+  is_sure = λ door event. not (is_let_in door event.1) && is_sure_at door event.1;
 }

@@ -1,7 +1,6 @@
 //! A site with its log behind its doors.
 
-use crate::answers::answer_at;
-use crate::passages::comes_in;
+use crate::answers::{answer_at, lets_in};
 use disk_store::BytewiseDisk;
 use rest_machine::Settling;
 use rest_site::RestSite;
@@ -55,10 +54,11 @@ impl<K: BytewiseDisk> Settling for AskedLog<K> {
         request: &[u8],
         out: &mut ReplyBuf,
     ) -> Result<(), NoMemory> {
-        if comes_in(door, request) {
+        let site = self.log.machine();
+        if lets_in(door, site, actor, request) {
             self.log.act(actor, request, out)
         } else {
-            answer_at(self.alloc, self.log.machine(), door, request, out)
+            answer_at(self.alloc, site, door, actor, request, out)
         }
     }
 

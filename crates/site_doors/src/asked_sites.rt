@@ -1,7 +1,6 @@
 //! A site in memory behind its doors.
 
-use crate::answers::answer_at;
-use crate::passages::comes_in;
+use crate::answers::{answer_at, lets_in};
 use rest_machine::Settling;
 use rest_site::RestSite;
 use std::alloc::Global;
@@ -52,10 +51,10 @@ impl Settling for AskedSite {
         request: &[u8],
         out: &mut ReplyBuf,
     ) -> Result<(), NoMemory> {
-        if comes_in(door, request) {
+        if lets_in(door, &self.site, actor, request) {
             self.site.act(actor, request, out)
         } else {
-            answer_at(self.alloc, &self.site, door, request, out)
+            answer_at(self.alloc, &self.site, door, actor, request, out)
         }
     }
 

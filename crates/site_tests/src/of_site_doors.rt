@@ -127,6 +127,38 @@ fn each_door_lets_in_and_tells_what_it_is_for(rt: HostRuntime) {
     drop(site);
 }
 
+/// A site of two with room for six states.
+const ROOM_FOR_SIX: Limits = Limits {
+    sites: 2,
+    max_kept: 6,
+    ..LIMITS
+};
+
+/// Its clients' share is two states: the root, and one commit.
+const UP_TO_THE_SHARE: &str = "\
+1 0100         01000000000000               open => opened 0.0
+1 0200         02000000000000               begin any => begun 0.0
+1 040178000131 07                           put x 1 => done
+1 06000000     0800010000000101000000000000 commit - => committed 1.1 from 0.0
+1 0200         02000100000001               begin any => begun 1.1
+1 040178000132 07                           put x 2 => done
+1 06000000     151400000002                 commit - => refused full 2";
+
+#[test]
+fn a_client_commits_up_to_the_share(rt: HostRuntime) {
+    let alloc = rt.alloc();
+    let mut site = asked_site(&rt, alloc, keys(&rt), ROOM_FOR_SIX);
+    assert!(rt;
+        come_out(
+            &rt,
+            &mut site,
+            FOR_CLIENTS,
+            Talk::of(&rt, alloc, &[UP_TO_THE_SHARE])
+        )
+    );
+    drop(site);
+}
+
 /// Before the site's life began, no door tells it, and none lets it begin.
 const BEFORE_LIFE: &str = "\
 1 47                                 151b47 life => refused unsupported 71

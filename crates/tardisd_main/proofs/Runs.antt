@@ -36,11 +36,11 @@ weaker w rule scope to told s end before after tells run =
 -- a run of what stands for the site of a place that opens and begins a life
 pub serves_place : {E : Type 0} (asked : Daemon) (life : List ℕ) (held : HeldSite) (result : Result End E) (before after : Option (List Seen))
     → AcquaintedStands held (opens_at asked)
-    → IfOk result (λ end. (a : Acquainted) → AcquaintedStands held a → IsRun asked_site (upkeep_rule asked.tidy asked.rules asked.join_after) (scope_of asked)
+    → IfOk result (λ end. (a : Acquainted) → AcquaintedStands held a → IsRun asked_site (upkeep_rule asked.tidy asked.rules asked.join_after asked.every) (scope_of asked)
     (λ t. (m : AskedSite) × AcquaintedStands m.site t) (ruled_machine.step a (begin_life life)) end before after)
     → IfOk result (λ end. ServesPlace asked life end before after)
 serves_place asked life held (Ok end) before after stands run =
-    weaker asked_site (upkeep_rule asked.tidy asked.rules asked.join_after) (scope_of asked) (λ t. (m : AskedSite) × AcquaintedStands m.site t) (λ a. IsSound a.site)
+    weaker asked_site (upkeep_rule asked.tidy asked.rules asked.join_after asked.every) (scope_of asked) (λ t. (m : AskedSite) × AcquaintedStands m.site t) (λ a. IsSound a.site)
     (ruled_machine.step (opens_at asked) (begin_life life)) end before after (λ t both. both.1.0.1) (run (opens_at asked) stands)
 serves_place asked life held (Err fault) before after stands run = tt
 

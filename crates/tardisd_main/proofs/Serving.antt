@@ -90,8 +90,8 @@ pub serves_file : {K : Type 0} (k : ADisk K) (asked : Daemon) (life : List ℕ) 
     (old new : Logged HeldSite K) (back : K) (end : End) (before after : Option (List Seen))
     → opened_alone old.machine ≡ opens_at asked
     → opens_with new.file.front (opened_alone new.machine) ≡ opens_with old.file.front (opened_alone old.machine) → back ≡ new.file.disk
-    → IsRun kept_site (upkeep_rule asked.tidy asked.rules asked.join_after) (scope_of asked) (StandsFor k new) (begun site bodies life) end before after
+    → IsRun kept_site (upkeep_rule asked.tidy asked.rules asked.join_after asked.every) (scope_of asked) (StandsFor k new) (begun site bodies life) end before after
     → ServesFile k asked life old.file.front bodies site back end before after
 serves_file {K} k asked life bodies site old new back end before after opened opening is run =
-    weaker kept_site (upkeep_rule asked.tidy asked.rules asked.join_after) (scope_of asked) (StandsFor k new) (λ kept. Keeps k asked back old.file.front kept) (begun site bodies life) end
+    weaker kept_site (upkeep_rule asked.tidy asked.rules asked.join_after asked.every) (scope_of asked) (StandsFor k new) (λ kept. Keeps k asked back old.file.front kept) (begun site bodies life) end
     before after (λ kept at. keeps_opening k asked old new back kept opened opening is at) run

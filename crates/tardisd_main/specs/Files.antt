@@ -86,4 +86,4 @@ module _ {K : Type 0} (k : ADisk K) where
   -- connections and the peers that are asked for and what the edge saw, in which nothing is told before the disk keeps it.
   abbrev pub ServesFile : Daemon → (life : List ℕ) → LogFront → List (List ℕ) → Acquainted → K → End → (before after : Option (List Seen)) → Type 0
   ServesFile asked life front bodies site back end before after =
-      IsRun kept_site (upkeep_rule asked.tidy asked.rules asked.join_after) (scope_of asked) (λ kept. Keeps asked back front kept) (begun site bodies life) end before after
+      IsRun kept_site (upkeep_rule asked.tidy asked.rules asked.join_after asked.every) (scope_of asked) (λ kept. Keeps asked back front kept) (begun site bodies life) end before after

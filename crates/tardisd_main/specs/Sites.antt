@@ -57,11 +57,16 @@ tidy_rule true = slow_rule (watching ++ request_spelling RaiseAuto ∷ request_s
 abbrev pub join_request : (patience : ℕ) → (rules : List ℕ) → List ℕ
 join_request patience rules = JOIN ∷ patience ∷ rules
 
+-- For so many milliseconds leaves are left to another site: for as many seconds as are asked for, and for two pauses between exchanges at
+-- least, within which a join that was made comes.
+abbrev pub wait_of : (join_after every : ℕ) → ℕ
+wait_of join_after every = max (1000 * max join_after (2 * every)) 1
+
 -- After each turn in which a reply was given that counts these are asked, and then two leaves are joined by rules; and again behind the
 -- next turn where two were. Where leaves stay apart, they are asked again once 64 replies were given that count, or one and a second has
--- passed. Leaves that another site is to join wait for it for so many seconds, or twice as many, by how near this site is to their join.
-abbrev pub joining_rule : List (List ℕ) → (rules : List ℕ) → (join_after : ℕ) → UpkeepRule
-joining_rule requests rules join_after = record {
+-- passed. Leaves that another site is to join wait for it once, or twice, by how near this site is to their join.
+abbrev pub joining_rule : List (List ℕ) → (rules : List ℕ) → (join_after every : ℕ) → UpkeepRule
+joining_rule requests rules join_after every = record {
   codes = counted_codes;
   after = 1;
   pays = 4294967295;
@@ -72,16 +77,16 @@ joining_rule requests rules join_after = record {
   held = JOIN ∷ FOR_OTHERS ∷ [];
   soon = 1000;
   late = join_request 1 rules ∷ join_request 2 rules ∷ [];
-  wait = max 1 (1000 * join_after);
+  wait = wait_of join_after every;
 }
 
 -- With rules two leaves are joined by them; where the site collects too the floor is raised before that, and up to 4,096 states are
 -- collected.
-abbrev pub upkeep_rule : (tidy : Bool) → (rules : Option (List ℕ)) → (join_after : ℕ) → Option UpkeepRule
-upkeep_rule tidy None join_after = Some (tidy_rule tidy)
-upkeep_rule false (Some rules) join_after = Some (joining_rule watching rules join_after)
-upkeep_rule true (Some rules) join_after =
-    Some (joining_rule (watching ++ request_spelling RaiseAuto ∷ request_spelling (Tidy 4096) ∷ []) rules join_after)
+abbrev pub upkeep_rule : (tidy : Bool) → (rules : Option (List ℕ)) → (join_after every : ℕ) → Option UpkeepRule
+upkeep_rule tidy None join_after every = Some (tidy_rule tidy)
+upkeep_rule false (Some rules) join_after every = Some (joining_rule watching rules join_after every)
+upkeep_rule true (Some rules) join_after every =
+    Some (joining_rule (watching ++ request_spelling RaiseAuto ∷ request_spelling (Tidy 4096) ∷ []) rules join_after every)
 
 -- with as many connections as are asked for; from the peers that are asked for, and as often as is asked
 abbrev pub scope_of : Daemon → Scope
@@ -103,5 +108,5 @@ asked_site = behind_doors ruled_machine (seen_through ruled_machine site_doors) 
 -- upkeep, the connections and the peers that are asked for, and what the edge saw.
 abbrev pub ServesPlace : Daemon → (life : List ℕ) → End → (before after : Option (List Seen)) → Type 0
 ServesPlace asked life end before after =
-    IsRun asked_site (upkeep_rule asked.tidy asked.rules asked.join_after) (scope_of asked) (λ a. IsSound a.site) (ruled_machine.step (opens_at asked) (begin_life life)) end
+    IsRun asked_site (upkeep_rule asked.tidy asked.rules asked.join_after asked.every) (scope_of asked) (λ a. IsSound a.site) (ruled_machine.step (opens_at asked) (begin_life life)) end
     before after

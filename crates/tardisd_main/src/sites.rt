@@ -1,6 +1,6 @@
 //! One site over the connections of an edge.
 
-ghost use Rattle.std.specs.Prelude.{◌≡◌, ◌⊎◌, [], ◌∷◌, ◌++◌, ◌<◌, ◌≤◌, ◌+◌, ◌*◌, max, ℕ, List, true, None, Some, length, map, option_map, IfOk, IfSome, OnOk, OnErr};
+ghost use Rattle.std.specs.Prelude.{◌≡◌, ◌⊎◌, [], ◌∷◌, ◌++◌, ◌<◌, ◌≤◌, ◌+◌, ℕ, List, true, None, Some, length, map, option_map, IfOk, IfSome, OnOk, OnErr};
 ghost use Rattle.wire_lives.specs.declared.life_codes.TheConstants.{BEGIN_LIFE};
 ghost use Rattle.hub.specs.Connections.{slots};
 ghost use Rattle.hub.specs.Settlings.{behind_doors};
@@ -9,7 +9,7 @@ ghost use Rattle.hub.specs.Runs.{close, IsRun};
 ghost use Rattle.daemon_words.specs.Daemons.{daemon_of};
 ghost use Rattle.daemon_words.specs.Capacity.{IsCapacity};
 ghost use Rattle.command_words.specs.Places.{IsPlace};
-ghost use Rattle.tardisd_main.specs.Sites.{upkeep_rule, slow_rule, joining_rule, join_request, scope_of, begin_life, ServesPlace};
+ghost use Rattle.tardisd_main.specs.Sites.{upkeep_rule, slow_rule, joining_rule, join_request, wait_of, scope_of, begin_life, ServesPlace};
 
 use daemon_words::{DaemonPlan, MOST_CONNECTIONS};
 use hub::{End, Ports, SLOTS, Scope, Upkeep, serve};
@@ -105,7 +105,7 @@ fn serve_machine<M: Settling, P: Ports>(
     requires capacity { IsCapacity plan.now.capacity }
     requires few { length plan.now.peers.items ≤ 15 }
     ensures served { IfOk result (λ end. (s : M.Plain) → M.stands machine s
-        → IsRun (behind_doors M.plain M.through M.is_settled M.settled) (upkeep_rule plan.now.tidy (option_map (λ word. word.now) plan.now.rules) plan.now.join_after) (scope_of (daemon_of plan.now)) (λ t. (m : M) × M.stands m t)
+        → IsRun (behind_doors M.plain M.through M.is_settled M.settled) (upkeep_rule plan.now.tidy (option_map (λ word. word.now) plan.now.rules) plan.now.join_after plan.now.every) (scope_of (daemon_of plan.now)) (λ t. (m : M) × M.stands m t)
         (M.plain.step s (begin_life life)) end (P.seen ports.old) (P.seen ports.new)) }
     ensures settled { IfOk result (λ end. end ≡ End.Unsettled → ⊥) }
     ensures nothing { OnErr result (ports.new ≡ ports.old) }
@@ -126,7 +126,7 @@ pub(crate) fn serve_alive<M: Settling, P: Ports>(
     requires capacity { IsCapacity plan.now.capacity }
     requires few { length plan.now.peers.items ≤ 15 }
     ensures served { IfOk result (λ end. (s : M.Plain) → M.stands machine.old s
-        → IsRun (behind_doors M.plain M.through M.is_settled M.settled) (upkeep_rule plan.now.tidy (option_map (λ word. word.now) plan.now.rules) plan.now.join_after) (scope_of (daemon_of plan.now)) (M.stands machine.new)
+        → IsRun (behind_doors M.plain M.through M.is_settled M.settled) (upkeep_rule plan.now.tidy (option_map (λ word. word.now) plan.now.rules) plan.now.join_after plan.now.every) (scope_of (daemon_of plan.now)) (M.stands machine.new)
         (M.plain.step s (begin_life life)) end (P.seen ports.old) (P.seen ports.new)) }
     ensures unsettled { IfOk result (λ end. end ≡ End.Unsettled → 0 < M.faults machine.new) }
     ensures stands { OnErr result ((s : M.Plain) → M.stands machine.old s → M.stands machine.new s ⊎ M.stands machine.new (M.plain.step s (begin_life life))) }
@@ -154,7 +154,7 @@ fn serve_ruled<M: Settling, P: Ports>(
     requires capacity { IsCapacity plan.now.capacity }
     requires few { length plan.now.peers.items ≤ 15 }
     ensures served { IfOk result (λ end. (s : M.Plain) → M.stands machine.old s
-        → IsRun (behind_doors M.plain M.through M.is_settled M.settled) (upkeep_rule plan.now.tidy (Some rules.now) plan.now.join_after) (scope_of (daemon_of plan.now))
+        → IsRun (behind_doors M.plain M.through M.is_settled M.settled) (upkeep_rule plan.now.tidy (Some rules.now) plan.now.join_after plan.now.every) (scope_of (daemon_of plan.now))
         (M.stands machine.new) s end (P.seen ports.old) (P.seen ports.new)) }
     ensures unsettled { IfOk result (λ end. end ≡ End.Unsettled → 0 < M.faults machine.new) }
     ensures stands { OnErr result ((s : M.Plain) → M.stands machine.old s → M.stands machine.new s) }
@@ -167,11 +167,11 @@ fn serve_ruled<M: Settling, P: Ports>(
     let late: [&[u8]; 2] = [second.as_slice(), last.as_slice()];
     if plan.tidy {
         let requests: [&[u8]; 5] = [&ASK_OLDEST, &STAT, &RAISE_AUTO, &TIDY_MANY, join.as_slice()];
-        let upkeep = join_upkeep(&requests, &late, plan.join_after);
+        let upkeep = join_upkeep(&requests, &late, plan.join_after, plan.every);
         serve(alloc, machine, ports, Some(upkeep), scope_of(plan))
     } else {
         let requests: [&[u8]; 3] = [&ASK_OLDEST, &STAT, join.as_slice()];
-        let upkeep = join_upkeep(&requests, &late, plan.join_after);
+        let upkeep = join_upkeep(&requests, &late, plan.join_after, plan.every);
         serve(alloc, machine, ports, Some(upkeep), scope_of(plan))
     }
 }
@@ -201,9 +201,10 @@ fn join_upkeep<'a>(
     requests: &'a [&'a [u8]],
     late: &'a [&'a [u8]],
     join_after: u32,
+    every: u32,
 ) -> Upkeep<'a>
-    ensures { (before : List (List ℕ)) (rules : List ℕ) → map (λ r. r.now) requests.entry.now ≡ before ++ join_request 0 rules ∷ []
-        → map (λ r. r.now) late.entry.now ≡ join_request 1 rules ∷ join_request 2 rules ∷ [] → rule_of result ≡ joining_rule before rules join_after }
+    ensures rule { (before : List (List ℕ)) (rules : List ℕ) → map (λ r. r.now) requests.entry.now ≡ before ++ join_request 0 rules ∷ []
+        → map (λ r. r.now) late.entry.now ≡ join_request 1 rules ∷ join_request 2 rules ∷ [] → rule_of result ≡ joining_rule before rules join_after every }
     ensures often { (0 < (rule_of result).after) × (0 < (rule_of result).later) × (0 < (rule_of result).wait) }
 {
     Upkeep {
@@ -217,15 +218,17 @@ fn join_upkeep<'a>(
         held: &FOR_OTHERS,
         soon: 1_000,
         late,
-        wait: wait_of(join_after),
+        wait: wait_of(join_after, every),
     }
 }
 
-/// So many seconds in milliseconds, one at least.
-fn wait_of(seconds: u32) -> u64
-    ensures wait { result ≡ max 1 (1000 * seconds) }
+/// For how many milliseconds leaves are left to another site: for so many seconds, and for two pauses between exchanges at least, within
+/// which a join that was made comes.
+fn wait_of(join_after: u32, every: u32) -> u64
+    ensures wait { result ≡ wait_of join_after every }
 {
-    (1_000 * u64::from(seconds)).max(1)
+    let seconds = u64::from(join_after).max(2 * u64::from(every));
+    (1_000 * seconds).max(1)
 }
 
 /// The request to join leaves by these rules, with this patience: a wait more for each.

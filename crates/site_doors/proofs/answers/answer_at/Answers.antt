@@ -1,33 +1,40 @@
-use Rattle.std.proofs.Common.{◌≡◌, ◌++◌, List, ℕ, sym, ap, ◌∙◌}
-use Rattle.tardis_base.specs.declared.replies.Refusal.TheVariants.{Unsupported}
-use Rattle.tardis_base.specs.declared.replies.Reply.TheVariants.{Refused}
-use Rattle.wire_talk.specs.Spellings.{reply_spelling}
+use Rattle.std.proofs.Common.{◌≡◌, [], sym, subst, ◌∙◌}
+use Rattle.std.specs.Option.{option_map_or}
+use Rattle.std.proofs.lemmas.Bool.{cond-true, cond-false}
+use Rattle.tardis_base.specs.Plain.{Event}
+use Rattle.session_core.specs.Machine.{SiteStands}
 use Rattle.site_lives.specs.Acquainted.{Acquainted}
 use Rattle.rest_site.specs.Stands.{AcquaintedStands}
-use Rattle.site_doors.specs.Rules.{told, told_at}
+use Rattle.site_doors.specs.Room.{bound_reached}
+use Rattle.site_doors.specs.Rules.{is_let_in, told_at, told_full, site_doors}
 use Rattle.site_doors.proofs.Seen.{on_ok}
-use Rattle.site_doors.proofs.Told.{told-question, told-refused, sure-question}
+use Rattle.site_doors.proofs.Sure.{sure-at-door}
 use Rattle.site_doors.proofs.answers.answer_at.Goals as goal
 
-pub returns-then-is_question-clause-told : goal.returns-then-is_question-clause-told
-returns-then-is_question-clause-told c =
+pub returns-then-comes_in-clause-told : goal.returns-then-comes_in-clause-told
+returns-then-comes_in-clause-told c = λ a stands.
     let body = c.args.body.now in
-    let site = c.args.site.now in
-    let listed = sym c.is_question.ensures ∙ c.if-is_question.true in
-    on_ok c.tell.result
-    ((a : Acquainted) → AcquaintedStands site a → c.tell.new.out ≡ told a body)
-    ((a : Acquainted) → AcquaintedStands site a → c.tell.new.out ≡ told_at c.args.door a body)
-    c.tell.ensures.told
-    (λ f a stands. f a stands ∙ told-question c.args.door c.first_byte-code.result body c.first_byte-code.ensures listed a)
+    let door = c.args.door in
+    c.tell_full.ensures a.site (subst (λ core. SiteStands core a.site) (sym c.core.ensures) stands.0)
+    ∙ sym (cond-true (is_let_in door body) (option_map_or told_full (bound_reached a.site (c.args.actor, body)) []) (told_at door a body)
+    (sym c.comes_in.ensures ∙ c.if-comes_in.true))
 
-pub returns-then-is_question-clause-sure : goal.returns-then-is_question-clause-sure
-returns-then-is_question-clause-sure c = λ sure.
-    c.tell.ensures.sure
-    (sure-question c.args.door c.first_byte-code.result c.args.body.now c.first_byte-code.ensures (sym c.is_question.ensures ∙ c.if-is_question.true) sure)
+pub returns-else-comes_in-clause-told : goal.returns-else-comes_in-clause-told
+returns-else-comes_in-clause-told c =
+    let body = c.args.body.now in
+    let door = c.args.door in
+    let e : Event = (c.args.actor, body) in
+    let out = c.answer_by_code.new.out in
+    on_ok c.answer_by_code.result
+    ((a : Acquainted) → AcquaintedStands c.args.site.now a → out ≡ told_at door a body)
+    ((a : Acquainted) → AcquaintedStands c.args.site.now a → out ≡ site_doors.answer door a e)
+    c.answer_by_code.ensures.told
+    (λ f a stands.
+    f a stands
+    ∙ sym (cond-false (is_let_in door body) (option_map_or told_full (bound_reached a.site e) []) (told_at door a body)
+    (sym c.comes_in.ensures ∙ c.if-comes_in.false)))
 
-pub returns-else-is_question-clause-told : goal.returns-else-is_question-clause-told
-returns-else-is_question-clause-told c = λ a stands.
-    let code = c.first_byte-code.result in
-    c.write_refused.ensures
-    ∙ (ap (λ (o : List ℕ). o ++ reply_spelling (Refused (Unsupported code))) c.clear.ensures
-    ∙ told-refused c.args.door code c.args.body.now c.first_byte-code.ensures (sym c.is_question.ensures ∙ c.if-is_question.false) a)
+pub returns-else-comes_in-clause-sure : goal.returns-else-comes_in-clause-sure
+returns-else-comes_in-clause-sure c = λ sure.
+    c.answer_by_code.ensures.sure
+    (sure-at-door c.questions_have_one_spelling.ensures.question c.questions_are_apart.ensures.question c.args.body.now c.args.door c.args.actor sure)
