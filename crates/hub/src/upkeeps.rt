@@ -197,7 +197,11 @@ impl<'a> Tally<'a> {
     {
         match self.upkeep {
             Some(upkeep) => {
-                if is_owed(self.count, wanted(upkeep, self.last)) || self.backlog || self.is_soon(upkeep) || self.is_late() {
+                if is_owed(self.count, wanted(upkeep, self.last))
+                    || self.backlog
+                    || self.is_soon(upkeep)
+                    || self.is_late()
+                {
                     Some(upkeep)
                 } else {
                     None
@@ -292,7 +296,11 @@ fn at_most(count: u64, all: usize) -> usize
 fn wanted(upkeep: Upkeep<'_>, last: LastReply) -> u32
     ensures { result ≡ wanted (rule_of upkeep.entry) last }
 {
-    if last.puts_off() { upkeep.later } else { upkeep.after }
+    if last.puts_off() {
+        upkeep.later
+    } else {
+        upkeep.after
+    }
 }
 
 /// Whether as many replies as are wanted aren't paid off.

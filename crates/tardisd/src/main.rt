@@ -20,11 +20,10 @@ use options::tell_unknown;
 use std::alloc::Global;
 use std::env::{self, Args};
 use std::hash::RandomState;
-use std::io;
 use std::process::ExitCode;
 use std::random::RandomSource;
-use std::thread;
 use std::time::Duration;
+use std::{io, thread};
 use tardis_io::{StdOut, WriteFault, write_all};
 use tardisd_main::{DaemonEnd, FileFault, carry_out};
 
