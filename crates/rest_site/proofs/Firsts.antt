@@ -1,7 +1,7 @@
 -- Of promises that are seen one behind another the first that arrived no later than any other is kept; and whose it is is what the site tells.
-use Rattle.std.proofs.Common.{◌≡◌, ℕ, ◌+◌, ◌-◌, ◌==◌, ◌<◌, ◌≤◌, Bool, true, false, ◌&&◌, not, length, List, [], ◌∷◌, ◌++◌, map, filter, Option, Some, None, IsTrue, IsFalse, ◌⊎◌, inl, inr, refl, sym, ap, ap₂, subst, ◌∙◌, arith, if◌then◌else◌}
+use Rattle.std.proofs.Common.{◌≡◌, ℕ, ◌+◌, ◌-◌, ◌==◌, ◌<◌, ◌≤◌, Bool, true, false, ◌&&◌, not, length, List, [], ◌∷◌, ◌++◌, map, filter, Option, Some, None, IsTrue, IsFalse, ◌⊎◌, inl, inr, refl, sym, ap, subst, ◌∙◌, arith, if◌then◌else◌}
 use Rattle.std.specs.Prelude.{nat_le, nat_lt, find, filter_map}
-use Rattle.std.specs.List.{list_all, All, range_with_len, cons_option}
+use Rattle.std.specs.List.{All, range_with_len, cons_option}
 use Rattle.std.specs.Map.{values_of}
 use Rattle.std.proofs.lemmas.List.Elements.{All-head, All-tail}
 use Rattle.tardis_base.specs.declared.ids.StateId.{StateId}
