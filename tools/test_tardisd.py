@@ -32,6 +32,7 @@ LONGEST_FRAME = 1_048_576
 
 OPEN, BEGIN, ABORT, CLOSE, ABOUT = b"\x01\x00", b"\x02\x00", b"\x07", b"\x15", b"\x46"
 OPEN_FOLLOWING, STAT = b"\x01\x01", b"\x10"
+BEGIN_AT_OWN = b"\x02\x02"
 RAISE_AUTO, PULL = b"\x0e", b"\x13\x01" + bytes(4)
 COMMIT, COMMIT_FREELY = b"\x06\x01\x00\x00", b"\x06\x00\x00\x00"
 OPENED, BEGUN = b"\x01" + bytes(6), b"\x02" + bytes(6)
@@ -777,13 +778,36 @@ class Capacity(unittest.TestCase):
         self.assertRegex(first_line(server.process), held % ("100", re.escape(name)))
         self.assertEqual(select.select([server.process.stderr], [], [], 0.5)[0], [])
 
-    def test_many_kept_states_are_told_where_no_session_is_open(self):
-        server = self.start("--states", "10", "--tidy")
+    def told_of_seven(self, server, connection):
+        """What is told of the seven states that are kept, once it was looked at."""
+        ask(connection, *[STAT] * 64)
+        line = first_line(server.process)
+        self.assertTrue(line.startswith("tardisd: 7 of 10 states are kept: "), line)
+        return line[len("tardisd: 7 of 10 states are kept: "):]
+
+    def test_many_kept_states_are_told_where_nothing_holds_them(self):
+        server = self.start("--states", "10")
         connection = self.connect(server)
         self.assertEqual(ask(connection, OPEN, *[BEGIN, put(b"x", b"1"), COMMIT] * 6, CLOSE)[-1], CLOSED)
-        ask(connection, *[STAT] * 64)
-        line = "tardisd: 7 of 10 states are kept: another site may hold the floor, or leaves that nobody joins\n"
-        self.assertEqual(first_line(server.process), line)
+        line = "no one session, site or branch holds most of them: they are collected as requests come, or see kumovasil sessions\n"
+        self.assertEqual(self.told_of_seven(server, connection), line)
+
+    def test_many_kept_states_are_told_with_the_site_whose_consent_is_missing(self):
+        """And not with the innocent session that is open, and follows."""
+        server = self.start("--states", "10", "--sites", "3", "--site", "2")
+        connection = self.connect(server)
+        ask(connection, OPEN_FOLLOWING, *[BEGIN, put(b"x", b"1"), COMMIT] * 6)
+        line = r"^no consent of site 1 for [01] seconds lets them be collected: see that it runs and that sites fetch from each other\n$"
+        self.assertRegex(self.told_of_seven(server, connection), line)
+
+    def test_many_kept_states_are_told_with_how_many_branches_there_are(self):
+        """And not with the innocent sessions that are open, and follow."""
+        server = self.start("--states", "10")
+        for name in b"xyz":
+            connection = self.connect(server)
+            ask(connection, OPEN_FOLLOWING, *[BEGIN_AT_OWN, put(b"%c" % name, b"1"), COMMIT_FREELY] * 2)
+        line = "3 branches that nobody joined hold them: merge them (kumovasil merge), or name rules for their keys (--rules)\n"
+        self.assertEqual(self.told_of_seven(server, connection), line)
 
     def test_many_kept_states_are_told_where_nobody_collects(self):
         server = self.start("--states", "100")

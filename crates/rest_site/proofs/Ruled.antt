@@ -1,5 +1,5 @@
--- The machine of a site that joins leaves and tells its oldest ceiling where it is asked to: what it makes of a request about lives, of
--- the one for the oldest ceiling, of one to join leaves, and of all others.
+-- The machine of a site that joins leaves and tells its oldest promise where it is asked to: what it makes of a request about lives, of
+-- the one for the oldest promise, of one to join leaves, and of all others.
 use Rattle.std.proofs.Common.{◌≡◌, ℕ, Bool, true, false, not, ◌&&◌, ◌||◌, List, [], ◌∷◌, IsTrue, IsFalse, sym, ap, subst, ◌∙◌}
 use Rattle.std.proofs.lemmas.Bool.{cond-true, cond-false, both_ways}
 use Rattle.tardis_base.specs.Plain.{Event, PlainMachine}
@@ -12,7 +12,7 @@ use Rattle.join_rules.specs.Joins.{is_join, asked_to_join, joining}
 use Rattle.join_rules.specs.Laws.{behind_join}
 use Rattle.site_lives.specs.Lives.{is_of_lives}
 use Rattle.site_lives.specs.Acquainted.{Acquainted, about_lives, with_news}
-use Rattle.rest_site.specs.Oldest.{oldest_session, asks_oldest, oldest_told, telling}
+use Rattle.rest_site.specs.Oldest.{what_holds, asks_oldest, oldest_told, telling}
 use Rattle.rest_site.specs.Stands.{HeldSite, held_site, AcquaintedStands}
 use Rattle.rest_site.proofs.Loads.{goes-on-loading}
 use Rattle.rest_site.specs.Ruled.{ruled_machine}
@@ -43,15 +43,15 @@ module _ (a : Acquainted) (e : Event) where
   asked-step : IsFalse (is_of_lives e.1) → moved ≡ ruled_machine.step a e
   asked-step f = sym (cond-false (is_of_lives e.1) (with_news (about_lives a e.1).1 a) moved f)
 
-  -- for the oldest ceiling
-  pub oldest-reply : IsFalse (is_of_lives e.1) → IsTrue (asks_oldest e.1) → oldest_told (oldest_session a.site) ≡ ruled_machine.reply a e
-  oldest-reply f t = sym (cond-true (asks_oldest e.1) (oldest_told (oldest_session a.site)) ((joining site_machine).reply a.site e) t) ∙ asked-reply f
+  -- for the oldest promise
+  pub oldest-reply : IsFalse (is_of_lives e.1) → IsTrue (asks_oldest e.1) → oldest_told (what_holds a.site) ≡ ruled_machine.reply a e
+  oldest-reply f t = sym (cond-true (asks_oldest e.1) (oldest_told (what_holds a.site)) ((joining site_machine).reply a.site e) t) ∙ asked-reply f
 
   pub oldest-step : IsFalse (is_of_lives e.1) → IsTrue (asks_oldest e.1) → a ≡ ruled_machine.step a e
   oldest-step f t = ap (moved_to a) (sym (cond-true (asks_oldest e.1) a.site ((joining site_machine).step a.site e) t)) ∙ asked-step f
 
   other-reply : IsFalse (is_of_lives e.1) → IsFalse (asks_oldest e.1) → (joining site_machine).reply a.site e ≡ ruled_machine.reply a e
-  other-reply f o = sym (cond-false (asks_oldest e.1) (oldest_told (oldest_session a.site)) ((joining site_machine).reply a.site e) o) ∙ asked-reply f
+  other-reply f o = sym (cond-false (asks_oldest e.1) (oldest_told (what_holds a.site)) ((joining site_machine).reply a.site e) o) ∙ asked-reply f
 
   other-step : IsFalse (is_of_lives e.1) → IsFalse (asks_oldest e.1) → moved_to a ((joining site_machine).step a.site e) ≡ ruled_machine.step a e
   other-step f o = ap (moved_to a) (sym (cond-false (asks_oldest e.1) a.site ((joining site_machine).step a.site e) o)) ∙ asked-step f
@@ -107,7 +107,7 @@ site-sure e f o g sure = go (is_of_lives e.1) (asks_oldest e.1) (is_join e.1) (s
 -- ===== In memory
 
 module _ (held : HeldSite) (e : Event) (f : IsFalse (is_of_lives e.1)) (t : IsTrue (asks_oldest e.1)) where
-  pub oldest-told : (out : List ℕ) → ((s : Site) → SiteStands held.core s → out ≡ oldest_told (oldest_session s)) →
+  pub oldest-told : (out : List ℕ) → ((s : Site) → SiteStands held.core s → out ≡ oldest_told (what_holds s)) →
       (a : Acquainted) → AcquaintedStands held a → out ≡ ruled_machine.reply a e
   oldest-told out told a stands = told a.site stands.0 ∙ oldest-reply a e f t
 

@@ -104,7 +104,7 @@ module _ (a : Acquainted) (event : Event) where
   abbrev of-others : Option LastingThing
   of-others = if is_join event.1 then of-join else thing_of_event a event
 
-  -- nothing lasts of the request for the oldest ceiling
+  -- nothing lasts of the request for the oldest promise
   pub oldest-bytes : IsTrue (asks_oldest event.1) → [] ≡ ruled_bytes a event
   oldest-bytes t = ap bytes_of (sym (cond-true (asks_oldest event.1) None of-others t))
 

@@ -36,7 +36,7 @@ lives_dont_join (code ∷ fields) t = elim (or_cases (code == 72) (code == 73) t
   | inr begin ↦ subst (λ (c : ℕ). (c == 74) ≡ false) (sym (eqb-true code 73 begin)) refl
 ]
 
--- nor that for the oldest ceiling
+-- nor that for the oldest promise
 pub lives_tell_no_ceiling : (bytes : List ℕ) → IsTrue (is_of_lives bytes) → IsFalse (asks_oldest bytes)
 lives_tell_no_ceiling bytes t = false_from_ne_true (asks_oldest bytes) (λ asks.
     let is : bytes ≡ OLDEST ∷ [] = (bytes_eq-Decides bytes (OLDEST ∷ [])).0 asks in

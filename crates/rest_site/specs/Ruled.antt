@@ -1,4 +1,4 @@
--- A site with the lives that it knows, which joins leaves by rules and tells its oldest ceiling where it is asked to, as a machine; and
+-- A site with the lives that it knows, which joins leaves by rules and tells its oldest promise where it is asked to, as a machine; and
 -- what lasts of its requests.
 use Rattle.std.specs.Prelude.{ℕ, List, Option, None, option_map, option_to_list, if◌then◌else◌}
 use Rattle.tardis_base.specs.Plain.{Event, PlainMachine}
@@ -11,7 +11,7 @@ use Rattle.site_lives.specs.Things.{LastingThing, OfSite, thing_of_event, all_sp
 abbrev pub ruled_machine : PlainMachine Acquainted
 ruled_machine = acquainted (telling (joining site_machine))
 
--- what lasts of an event: nothing of the request for the oldest ceiling, of one to join leaves the record that arrives, of all others what
+-- what lasts of an event: nothing of the request for the oldest promise, of one to join leaves the record that arrives, of all others what
 -- lasts of them without rules
 abbrev pub ruled_thing : Acquainted → Event → Option LastingThing
 ruled_thing a e =

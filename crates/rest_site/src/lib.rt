@@ -1,8 +1,8 @@
-//! A site with the lives that it knows, which joins leaves by rules and tells its oldest ceiling where it is asked to, and can end and
+//! A site with the lives that it knows, which joins leaves by rules and tells its oldest promise where it is asked to, and can end and
 //! start again: it puts what lasts of each request behind a log, and takes back what stands in one. It can be told by a shorter history
 //! than its own, a checkpoint, and knows another site that rests as it does.
 //!
-//! The rules, and how what lasts is spelled, are stated in `docs/MODEL.md`, 'What lasts', 'Lives', 'Joins by rules', 'The oldest ceiling',
+//! The rules, and how what lasts is spelled, are stated in `docs/MODEL.md`, 'What lasts', 'Lives', 'Joins by rules', 'The oldest promise',
 //! 'Checkpoints' and 'A shorter history'.
 #![tactic(auto)]
 

@@ -1,9 +1,10 @@
 -- Worked rows: what comes in through each door, and what is answered there.
 use Rattle.std.specs.Prelude.{◌≡◌, true, false, []}
-use Rattle.plain_site.specs.RowWords.{site_after, lone_site}
+use Rattle.plain_site.specs.RowWords.{site_after, lone_site, program_limits}
+use Rattle.plain_site.specs.Site.{opening}
 use Rattle.plain_site.specs.RowByteWords.{hex}
 use Rattle.plain_questions.specs.RowsOfReads.{parted}
-use Rattle.site_lives.specs.Acquainted.{unacquainted}
+use Rattle.site_lives.specs.Acquainted.{Acquainted, unacquainted}
 use Rattle.rest_site.specs.Ruled.{ruled_machine, ruled_bytes}
 use Rattle.site_doors.specs.Rules.{is_let_in, told_at, is_sure_at}
 
@@ -80,16 +81,27 @@ LivesAreToldAtEachDoor =
     × (is_let_in 0 (hex "49") ≡ false)
     × (told_at 0 unborn (hex "49 aaaaaaaaaaaaaaaaaaaaaaaaaaaaaaaa") ≡ hex "15 01")
 
--- What a server asks without a door: where no session is open; where two have their ceilings at the root; once the first moved its own down
--- to 1.2, and the second then to 1.1. With a field it is no request. Nothing lasts of it.
+-- What a server asks without a door: what keeps states from being collected. Nobody, where no state arrived but the root. Session 1, where two
+-- have their ceilings at the root; session 2 once the first moved its own down to 1.2, and still once it moved its own to 1.1; none of them but
+-- 2 leaves once it is at 1.3, and where both are closed. Of two sites that have these sessions: session 1, which is named before the other site,
+-- whose floor is at the root too; and site 2, once both moved down to their leaves, and where both are closed. With a field it is no request.
+-- Nothing lasts of it.
 abbrev pub TheOldestCeilingIsTold : Type 0
 TheOldestCeilingIsTold =
     let site = unacquainted (site_after lone_site parted) in
     let moved = ruled_machine.step site (1, hex "0c 0001 00000002") in
-    (ruled_machine.reply (unacquainted lone_site) (0, hex "4b") ≡ hex "4b")
-    × (ruled_machine.reply site (0, hex "4b") ≡ hex "4b 0001")
-    × (ruled_machine.reply moved (0, hex "4b") ≡ hex "4b 0002")
-    × (ruled_machine.reply (ruled_machine.step moved (2, hex "0c 0001 00000001")) (0, hex "4b") ≡ hex "4b 0002")
+    let closed = λ (s : Acquainted). ruled_machine.step (ruled_machine.step s (1, hex "15")) (2, hex "15") in
+    let of_two = unacquainted (site_after (opening (program_limits 2) 1) parted) in
+    let both_moved = ruled_machine.step (ruled_machine.step of_two (1, hex "0c 0001 00000002")) (2, hex "0c 0001 00000003") in
+    (ruled_machine.reply (unacquainted lone_site) (0, hex "4b") ≡ hex "4b 00")
+    × (ruled_machine.reply site (0, hex "4b") ≡ hex "4b 01 0001")
+    × (ruled_machine.reply moved (0, hex "4b") ≡ hex "4b 01 0002")
+    × (ruled_machine.reply (ruled_machine.step moved (2, hex "0c 0001 00000001")) (0, hex "4b") ≡ hex "4b 01 0002")
+    × (ruled_machine.reply (ruled_machine.step moved (2, hex "0c 0001 00000003")) (0, hex "4b") ≡ hex "4b 03 00000002")
+    × (ruled_machine.reply (closed site) (0, hex "4b") ≡ hex "4b 03 00000002")
+    × (ruled_machine.reply of_two (0, hex "4b") ≡ hex "4b 01 0001")
+    × (ruled_machine.reply both_moved (0, hex "4b") ≡ hex "4b 02 0002")
+    × (ruled_machine.reply (closed of_two) (0, hex "4b") ≡ hex "4b 02 0002")
     × (ruled_machine.reply site (0, hex "4b 00") ≡ hex "15 01")
     × (ruled_bytes moved (0, hex "4b") ≡ [])
 

@@ -11,7 +11,7 @@ use tardis_io::Failed;
 
 /// A site with the log of what lasted of its requests, behind its doors: what comes in through one is a request to the site, and
 /// everything else is answered at the door, and nothing lasts of it. What a question costs is told at `site_questions::answer`.
-/// Requests about lives, those to join leaves, and that for the oldest ceiling come in through no door.
+/// Requests about lives, those to join leaves, and that for the oldest promise come in through no door.
 #[derive(Drop)]
 pub struct AskedLog<K: BytewiseDisk> {
     pub alloc: Global,

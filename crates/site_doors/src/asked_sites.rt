@@ -9,7 +9,7 @@ use tardis_io::Failed;
 
 /// A site that is lost when it ends, with the lives that it knows, behind its doors: what comes in through one is a request to the
 /// site, and everything else is answered at the door. What a question costs is told at `site_questions::answer`. Requests about
-/// lives, those to join leaves, and that for the oldest ceiling come in through no door.
+/// lives, those to join leaves, and that for the oldest promise come in through no door.
 #[derive(Drop)]
 pub struct AskedSite {
     pub alloc: Global,

@@ -7,10 +7,10 @@ use crate::doors::{Door, is_passing};
 use crate::idles::Idle;
 use crate::lines::Line;
 use crate::plugs::{Plug, Work};
-use crate::rooms::{Room, RoomPlan};
+use crate::rooms::{Held, Room, RoomPlan};
 use crate::slots::Slots;
 use crate::streams::Stream;
-use crate::watches::{Holder, Watch};
+use crate::watches::{Holding, Watch};
 use hub::{Connection, PeerNews, Ports, Ready, SLOTS};
 use mio::{Events, Poll, Token};
 use site_peers::{Failure, Peer};
@@ -89,7 +89,7 @@ pub struct SocketPorts<'a, R, W> {
     /// The slot of which a read was offered, and how many bytes waited to be written to it then.
     heard: Option<(usize, usize)>,
     clock: Stopwatch,
-    /// What was told of how many states are kept, and of who holds the floor.
+    /// What was told of how many states are kept, and of what keeps them from being collected.
     room: Room,
     watch: W,
 }
@@ -437,16 +437,31 @@ impl<'a, R: Net + Clock, W: Watch + Drop> SocketPorts<'a, R, W> {
         self.clock.look(self.rt);
     }
 
-    /// The connection whose session holds the floor, as it was told last; none where no session did, or where that one is gone. The hub
-    /// asks for the connection in a slot as the actor that is the slot's number and one, and that is its session.
-    fn holder(&self) -> Option<Holder> {
-        let slot = self.room.holder()?.checked_sub(1)?;
+    /// What keeps most of the kept states from being collected, as it was told last.
+    fn holding(&self) -> Holding {
+        match self.room.held() {
+            Held::Nothing => Holding::Unknown,
+            Held::Session(number) => self.holding_session(number),
+            Held::OtherSite { number, since } => Holding::OtherSite {
+                number,
+                seconds: self.clock.now().saturating_sub(since) / 1_000,
+            },
+            Held::Leaves(count) => Holding::Leaves { count },
+        }
+    }
+
+    /// That the session with this number does; unknown where its connection is gone. The hub asks for the connection in a slot as the
+    /// actor that is the slot's number and one, and that is its session.
+    fn holding_session(&self, number: u16) -> Holding {
+        let Some(slot) = number.checked_sub(1) else {
+            return Holding::Unknown;
+        };
         match self.plugs.get(slot as usize) {
-            Some(Some(plug)) => Some(Holder {
+            Some(Some(plug)) => Holding::Session {
                 address: plug.stream().address(),
                 seconds: plug.silent_for(self.clock.now()) / 1_000,
-            }),
-            _ => None,
+            },
+            _ => Holding::Unknown,
         }
     }
 
@@ -639,11 +654,11 @@ impl<R: Net + Clock, W: Watch + Drop> Ports for SocketPorts<'_, R, W> {
     }
 
     fn note_reply(&mut self, reply: &[u8]) {
-        self.room.note_holder(reply);
+        self.room.note_held(reply, self.clock.now());
         if let Ok(Reply::Stat { kept, .. }) = read_reply(self.alloc, reply) {
             if self.room.is_news(kept) {
-                let holder = self.holder();
-                self.watch.crowded(kept, self.room.most(), holder);
+                let holding = self.holding();
+                self.watch.crowded(kept, self.room.most(), holding);
             }
         }
     }

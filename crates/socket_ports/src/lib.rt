@@ -20,4 +20,4 @@ mod watches;
 pub use doors::{Door, DoorFault, open_door, path_of};
 pub use edges::SocketPorts;
 pub use rooms::RoomPlan;
-pub use watches::{Holder, Watch};
+pub use watches::{Holding, Watch};

@@ -1,13 +1,44 @@
-//! What is told of how many states a site keeps, and of who holds its floor.
+//! What is told of how many states a site keeps, and of what keeps them from being collected.
 
 /// What an edge needs to know to tell of the room that is left.
 #[derive(Clone, Copy)]
 pub struct RoomPlan {
     /// The site may keep so many states.
     pub states: u32,
-    /// The code of the reply which session holds the floor. Behind it stands the session's number in two bytes, the most significant one
-    /// first, or nothing where no session is open.
+    /// The first byte of the reply what keeps states from being collected. Behind it stand the kind of that, and a number, the most
+    /// significant byte first.
     pub oldest: u8,
+    /// The kind that is a session; its number has two bytes.
+    pub session: u8,
+    /// The kind that is another site; its number has two bytes.
+    pub other_site: u8,
+    /// The kind that are leaves; how many there are has four bytes.
+    pub leaves: u8,
+}
+
+/// What keeps states from being collected, as the site told it last.
+#[derive(Clone, Copy)]
+pub(crate) enum Held {
+    Nothing,
+    /// This session.
+    Session(u16),
+    /// The site with this number, which has been named without a break since this time of the edge's clock.
+    OtherSite { number: u16, since: u64 },
+    /// So many leaves.
+    Leaves(u32),
+}
+
+impl Held {
+    /// That it is this site, as is told now.
+    fn by_site(self, number: u16, now: u64) -> Held {
+        match self {
+            Held::OtherSite {
+                number: before,
+                since,
+            } if before == number => Held::OtherSite { number, since },
+            _ => Held::OtherSite { number, since: now },
+        }
+    }
 }
 
 /// How full the site was told to be.
@@ -20,12 +51,12 @@ enum Told {
     All,
 }
 
-/// How many states may be kept, what was told of how many are, and which session holds the floor.
+/// How many states may be kept, what was told of how many are, and what keeps them from being collected.
 #[derive(Clone, Copy)]
 pub(crate) struct Room {
     plan: RoomPlan,
     told: Told,
-    holder: Option<u16>,
+    held: Held,
 }
 
 impl Room {
@@ -33,7 +64,7 @@ impl Room {
         Room {
             plan,
             told: Told::Nothing,
-            holder: None,
+            held: Held::Nothing,
         }
     }
 
@@ -41,19 +72,33 @@ impl Room {
         self.plan.states
     }
 
-    /// The session that held the floor when that was told last, if one was open then.
-    pub(crate) fn holder(&self) -> Option<u16> {
-        self.holder
+    /// What kept states from being collected when that was told last.
+    pub(crate) fn held(&self) -> Held {
+        self.held
     }
 
-    /// Notes which session holds the floor, where the reply tells that.
-    pub(crate) fn note_holder(&mut self, reply: &[u8]) {
-        match reply {
-            [code, high, low] if *code == self.plan.oldest => {
-                self.holder = Some(u16::from_be_bytes([*high, *low]));
+    /// Notes what keeps states from being collected, where the reply tells that at this time of the edge's clock.
+    pub(crate) fn note_held(&mut self, reply: &[u8], now: u64) {
+        if let [code, told @ ..] = reply {
+            if *code == self.plan.oldest {
+                self.held = self.held_as(told, now);
             }
-            [code] if *code == self.plan.oldest => self.holder = None,
-            _ => {}
+        }
+    }
+
+    /// What these bytes behind the code tell.
+    fn held_as(&self, told: &[u8], now: u64) -> Held {
+        match told {
+            [kind, high, low] if *kind == self.plan.session => {
+                Held::Session(u16::from_be_bytes([*high, *low]))
+            }
+            [kind, high, low] if *kind == self.plan.other_site => {
+                self.held.by_site(u16::from_be_bytes([*high, *low]), now)
+            }
+            [kind, first, second, third, fourth] if *kind == self.plan.leaves => {
+                Held::Leaves(u32::from_be_bytes([*first, *second, *third, *fourth]))
+            }
+            _ => Held::Nothing,
         }
     }
 

@@ -4,13 +4,26 @@ use site_peers::Failure;
 use std::io;
 use std::net::SocketAddr;
 
-/// The connection whose session holds the floor.
+/// What keeps most of the kept states from being collected.
 #[derive(Clone, Copy)]
-pub struct Holder {
-    /// Where it comes from, if it is one over TCP.
-    pub address: Option<SocketAddr>,
-    /// For so many seconds it asked nothing, and took no bytes.
-    pub seconds: u64,
+pub enum Holding {
+    /// The session of a connection, which comes from this address if it is one over TCP, and which for so many seconds asked nothing, and
+    /// took no bytes.
+    Session {
+        address: Option<SocketAddr>,
+        seconds: u64,
+    },
+    /// The site with this number, whose promise would have to move. It has been the one for so many seconds at least.
+    OtherSite {
+        number: u16,
+        seconds: u64,
+    },
+    /// So many branches that nobody joined.
+    Leaves {
+        count: u32,
+    },
+    /// Nothing that is known.
+    Unknown,
 }
 
 /// Is told of what becomes of peers, by their addresses: each time that one is reached, and each time that one is lost or can't be reached,
@@ -27,6 +40,6 @@ pub trait Watch {
     fn failed(&mut self, address: &str, before: bool, why: Failure, said: Option<io::ErrorKind>);
 
     /// So many states are kept, which are more than half of as many as may be, or as many; each is told once, until they were fewer than a
-    /// quarter. The floor waits for the session of this connection, if for any.
-    fn crowded(&mut self, kept: u32, most: u32, holder: Option<Holder>);
+    /// quarter. This keeps most of them from being collected.
+    fn crowded(&mut self, kept: u32, most: u32, holding: Holding);
 }

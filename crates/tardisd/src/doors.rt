@@ -7,7 +7,7 @@ use socket_ports::{Door, DoorFault, RoomPlan, SocketPorts, open_door, path_of};
 use std::net::SocketAddr;
 use std::time::Instant;
 use std::{fs, io};
-use tardisd_main::{Doors, FoundSite, GateFault, OLDEST, number_of};
+use tardisd_main::{Doors, FoundSite, GateFault, LEAVES, OLDEST, OTHER_SITE, SESSION, number_of};
 
 /// Doors over sockets of the system. That the site is served is told by a line on standard error, so that whoever started
 /// the program knows that clients may come; and so is a door that can't be opened.
@@ -71,6 +71,9 @@ impl<'a> SocketDoors<'a> {
         let room = RoomPlan {
             states: plan.capacity.states,
             oldest: OLDEST,
+            session: SESSION,
+            other_site: OTHER_SITE,
+            leaves: LEAVES,
         };
         SocketPorts::new(
             self.rt,

@@ -2,7 +2,7 @@
 //! keeps many states; and what is to be done.
 
 use site_peers::{Failure, NO_VERDICT};
-use socket_ports::{Holder, Watch};
+use socket_ports::{Holding, Watch};
 use std::{fmt, io};
 use wire_lives::life_codes::{ANOTHER_LIFE, NO_INTRODUCTION, NO_LIFE, OTHER_SITES, OWN_NUMBER};
 
@@ -40,12 +40,12 @@ impl Watch for PeersTold<'_> {
         let _ = self.rt.eprintln(lost);
     }
 
-    fn crowded(&mut self, kept: u32, most: u32, holder: Option<Holder>) {
+    fn crowded(&mut self, kept: u32, most: u32, holding: Holding) {
         let crowded = Crowded {
             kept,
             most,
             tidy: self.tidy,
-            holder,
+            holding,
         };
         let _ = self.rt.eprintln(crowded);
     }
@@ -57,7 +57,7 @@ struct Crowded {
     kept: u32,
     most: u32,
     tidy: bool,
-    holder: Option<Holder>,
+    holding: Holding,
 }
 
 impl fmt::Display for Crowded {
@@ -66,7 +66,7 @@ impl fmt::Display for Crowded {
             kept,
             most,
             tidy,
-            holder,
+            holding,
         } = *self;
         write!(f, "tardisd: {kept} of {most} states are kept: ")?;
         if !tidy {
@@ -75,24 +75,36 @@ impl fmt::Display for Crowded {
                 "with --keep-history none is collected: have a client ask for it (kumovasil raise, kumovasil tidy)"
             );
         }
-        match holder {
-            Some(holder) => {
-                write!(f, "the session of the connection ")?;
-                match holder.address {
-                    Some(address) => write!(f, "from {address}")?,
-                    None => write!(f, "over a Unix socket")?,
-                }
-                write!(
-                    f,
-                    " holds the floor, which has been silent for {} seconds: have it end, or move on",
-                    holder.seconds
-                )
+        write_holding(f, holding)
+    }
+}
+
+/// Writes what keeps most of them from being collected, and what is to be done.
+fn write_holding<W: fmt::Write>(f: &mut fmt::Formatter<W>, holding: Holding) -> fmt::Result {
+    match holding {
+        Holding::Session { address, seconds } => {
+            write!(f, "the session of the connection ")?;
+            match address {
+                Some(address) => write!(f, "from {address}")?,
+                None => write!(f, "over a Unix socket")?,
             }
-            None => write!(
+            write!(
                 f,
-                "another site may hold the floor, or leaves that nobody joins"
-            ),
+                " holds the floor, which has been silent for {seconds} seconds: have it end, or move on"
+            )
         }
+        Holding::OtherSite { number, seconds } => write!(
+            f,
+            "no consent of site {number} for {seconds} seconds lets them be collected: see that it runs and that sites fetch from each other"
+        ),
+        Holding::Leaves { count } => write!(
+            f,
+            "{count} branches that nobody joined hold them: merge them (kumovasil merge), or name rules for their keys (--rules)"
+        ),
+        Holding::Unknown => write!(
+            f,
+            "no one session, site or branch holds most of them: they are collected as requests come, or see kumovasil sessions"
+        ),
     }
 }
 

@@ -43,7 +43,7 @@ slow_rule requests full = record {
   wait = 1;
 }
 
--- which session's ceiling is the oldest, and how much is kept: the edge is told of both, so it knows the one when it is told the other
+-- what keeps states from being collected, and how much is kept: the edge is told of both, so it knows the one when it is told the other
 abbrev pub watching : List (List ℕ)
 watching = (OLDEST ∷ []) ∷ request_spelling Stat ∷ []
 

@@ -19,5 +19,5 @@ pub use endings::{DaemonEnd, FileFault, GateFault};
 pub use files::serve_file;
 pub use helps::{USAGE, VERSION, help_text};
 pub use programs::{carry_out, tardisd};
-pub use rest_site::oldest_codes::OLDEST;
+pub use rest_site::oldest_codes::{LEAVES, OLDEST, OTHER_SITE, SESSION};
 pub use sites::serve_place;

@@ -23,7 +23,7 @@ use tardis_base::{NoMemory, ReplyBuf};
 use wire_lives::life_codes;
 use wire_talk::{reply_codes, request_codes};
 
-/// The request Oldest: the edge is told which session's ceiling is the oldest, before it is told how much is kept.
+/// The request Oldest: the edge is told what keeps states from being collected, before it is told how much is kept.
 const ASK_OLDEST: [u8; 1] = [oldest_codes::OLDEST];
 
 // words ask for as many connections as a hub has slots for, and no more
@@ -64,13 +64,13 @@ const FOR_OTHERS: [u8; 2] = [join_codes::JOIN, join_codes::FOR_OTHERS];
 
 /// Serves the connections of an edge as the site at the plan's place, which opens with the root alone and then begins this life: each
 /// connection is an actor, and its requests and questions are answered at its door, as `hub::serve` says. From the plan's peers it fetches as
-/// often as that says. Keys are found by hashing with this seed. For each 64 replies that count the edge is told which session's ceiling is the
-/// oldest, and how much is kept. With `tidy` the floor is raised and up to 64 closed states are collected behind that, as actor 0 would ask it;
+/// often as that says. Keys are found by hashing with this seed. For each 64 replies that count the edge is told what keeps states from being
+/// collected, and how much is kept. With `tidy` the floor is raised and up to 64 closed states are collected behind that, as actor 0 would ask it;
 /// and where as many were collected, once more after the next turn of the edge. With rules all this is done, and two leaves are joined by
 /// them, after each turn in which a reply was given that counts. Where leaves stay apart, that is done again once 64 such replies were
 /// given, or one, and a second has passed. Leaves that another site is to join are joined here once it hasn't for as long as the plan
-/// says, or twice as long. Without memory for the site or the buffers nothing is done. Of what is asked so the oldest ceiling costs as much
-/// as there are open sessions.
+/// says, or twice as long. Without memory for the site or the buffers nothing is done. The request Oldest costs as
+/// much as there are open sessions and sites.
 pub fn serve_place<P: Ports>(
     alloc: Global,
     keys: RandomState,
