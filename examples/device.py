@@ -1,8 +1,8 @@
 """A device that is offline for a while: `examples/run.py device`.
 
-It keeps in a file what it read, at which state, and what it changed since. When it comes back it commits below that state, which
-forks where others changed the same, and merges. Where the state was collected meanwhile, it merges its changes with what is there
-by what it kept. Killed at any moment, it goes on from its file, and no change is made twice.
+It keeps in a file what it read, at which state, and what it changed since. When it comes back it commits below that
+state, which forks where others changed the same, and merges. Where the state was collected meanwhile, it merges its
+changes with what is there by what it kept. Killed at any moment, it goes on from its file, and no change is made twice.
 
 It prints:
 
@@ -31,7 +31,8 @@ SITES = 1
 KEYS = ("cart", "visits")
 #: what each key shall have where two sides changed it
 RESOLVE = tardis.by_prefix({"cart": tardis.union_of(","), "visits": tardis.counter})
-#: the last of the device's commits by its number, written by each: so a device that was killed knows whether one was made
+#: the last of the device's commits by its number, written by each: so a device that was killed knows whether one was
+#: made
 MARK = "device/1"
 
 
@@ -66,7 +67,8 @@ def change(path, add=(), remove=(), visits=1):
     """Needs no site."""
     kept = load(path)
     items = set(kept["values"]["cart"].split(",")) - {""}
-    kept["values"] = {"cart": ",".join(sorted((items | set(add)) - set(remove))), "visits": str(int(kept["values"]["visits"] or 0) + visits)}
+    count = int(kept["values"]["visits"] or 0) + visits
+    kept["values"] = {"cart": ",".join(sorted((items | set(add)) - set(remove))), "visits": str(count)}
     save(path, kept)
     print(f"offline it has {words(kept['values'])}")
 

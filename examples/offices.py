@@ -57,7 +57,8 @@ def main(*addresses):
         merged = basel.merge(tardis.union_of(","))
         carry(addresses)
         print(f"merged in Basel as {merged.id}, and carried to Zurich\nin Zurich: {calendar(zurich)}")
-        # a laptop reads, and goes offline; it needs no more than the state at which it read (device.py: where that is collected)
+        # a laptop reads, and goes offline; it needs no more than the state at which it read
+        # (device.py shows what to do where that was collected)
         with tardis.connect(addresses[1]) as laptop:
             laptop.open()
             read_at = laptop.begin("any")

@@ -182,7 +182,7 @@ def story(browser, address, folder):
 def measure(browser, address, states):
     """A long history: chains, forks, and many leaves beside each other."""
     with tardis.connect(address, PATIENCE) as site:
-        site.open()
+        site.open(follow=False)
         left = states - site.stat().kept
         while left > 0:
             with site.pipeline() as line:

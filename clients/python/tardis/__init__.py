@@ -22,9 +22,10 @@ from .ids import ROOT, Bytes, StateId
 from .merging import Comparison, Conflict, Merged, MergeStep
 from .pipelines import Pipeline
 from .refusals import (
-    AlreadyOpen, BadSite, BagFull, Below, Branches, CeilingBack, ClosedParent, Collected, Comparable, ConflictKey, Disconnected,
-    FloorBack, Full, Held, Malformed, NoBranch, NoMemory, NoQuestions, NoSuchItem, NoTxn, NotOpen, NotRead, OpenConflict, OwnItem, PathFull,
-    ProtocolError, Refused, SeqEnd, SessionsFull, TooMany, TooManyConnections, TrailFull, TxnOpen, Unknown, Unresolved, Unsupported, WrongMode)
+    AlreadyOpen, BadSite, BagFull, Below, Branches, CeilingBack, ClosedParent, Collected, Comparable, ConflictKey,
+    Disconnected, FloorBack, Full, Held, Malformed, NoBranch, NoMemory, NoQuestions, NoSuchItem, NoTxn, NotOpen,
+    NotRead, OpenConflict, OwnItem, PathFull, ProtocolError, Refused, SeqEnd, SessionsFull, TooMany,
+    TooManyConnections, TrailFull, TxnOpen, Unknown, Unresolved, Unsupported, WrongMode)
 from .replies import (
     About, Absent, Applied, Batch, Begun, Closed, Committed, Consent, Deleted, Done, Early, Ended, Entries, ForkReads, Keys, Known,
     Limits, Merging, Opened, Raised, Read, Record, Recorded, Reply, SessionLine, Sessions, Shown, SiteLine, Stat, States, Tidied, Value,
@@ -37,13 +38,14 @@ __version__ = "0.3.0"
 
 __all__ = [
     "About", "Absent", "AlreadyOpen", "Answer", "Applied", "BadSite", "BagFull", "Base", "Batch", "Begun", "Below",
-    "Branches", "Bytes", "CeilingBack", "Closed", "ClosedParent", "Collected", "Committed", "Comparable", "Comparison",
-    "Conflict", "ConflictKey", "Consent", "Deleted", "Difference", "Disconnected", "Done", "Early", "Ended", "Entries",
-    "FloorBack", "ForkReads", "Full", "Held", "History", "Items", "Keys", "Known", "Limits", "Malformed", "MergeStep",
-    "Merged", "Merging", "NoBranch", "NoMemory", "NoQuestions", "NoSuchItem", "NoTxn", "NotOpen", "NotRead", "OpenConflict", "Opened",
-    "OwnItem", "PathFull", "Pipeline", "ProtocolError", "ROOT", "Raised", "Read", "Record", "Recorded", "Refused", "Reply",
-    "Resolve", "Rules", "SeqEnd", "SessionLine", "Sessions", "SessionsFull", "Shown", "Sides", "Site", "SiteLine", "Stat", "State",
-    "StateId", "States", "Tidied", "TooMany", "TooManyConnections", "TrailFull", "Transaction", "TxnOpen", "UNKNOWN", "Unknown", "Unresolved",
-    "Unsupported", "Value", "Write", "WrongMode", "by_prefix", "connect", "counter", "last_writer", "merge_text",
-    "three_way_text", "union_of", "union_of_lines",
+    "Branches", "Bytes", "CeilingBack", "Closed", "ClosedParent", "Collected", "Committed", "Comparable",
+    "Comparison", "Conflict", "ConflictKey", "Consent", "Deleted", "Difference", "Disconnected", "Done", "Early",
+    "Ended", "Entries", "FloorBack", "ForkReads", "Full", "Held", "History", "Items", "Keys", "Known", "Limits",
+    "Malformed", "MergeStep", "Merged", "Merging", "NoBranch", "NoMemory", "NoQuestions", "NoSuchItem", "NoTxn",
+    "NotOpen", "NotRead", "OpenConflict", "Opened", "OwnItem", "PathFull", "Pipeline", "ProtocolError", "ROOT",
+    "Raised", "Read", "Record", "Recorded", "Refused", "Reply", "Resolve", "Rules", "SeqEnd", "SessionLine",
+    "Sessions", "SessionsFull", "Shown", "Sides", "Site", "SiteLine", "Stat", "State", "StateId", "States",
+    "Tidied", "TooMany", "TooManyConnections", "TrailFull", "Transaction", "TxnOpen", "UNKNOWN", "Unknown",
+    "Unresolved", "Unsupported", "Value", "Write", "WrongMode", "by_prefix", "connect", "counter", "last_writer",
+    "merge_text", "three_way_text", "union_of", "union_of_lines",
 ]

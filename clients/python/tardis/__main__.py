@@ -102,8 +102,8 @@ def tell_of_leaves(site: Site, shown: StateId) -> None:
     """Where there are several leaves, says which of them is shown."""
     leaves = site.leaves()
     if leaves.total > 1:
-        print(f"tardis: there are {leaves.total} leaves, {named(leaves)}, and this is what {shown} has: --at STATE shows another, and "
-              "merge joins them", file=sys.stderr)
+        print(f"tardis: there are {leaves.total} leaves, {named(leaves)}, and this is what {shown} has: "
+              "--at STATE shows another, and merge joins them", file=sys.stderr)
 
 
 def named(leaves: States) -> str:
@@ -240,7 +240,8 @@ def the_leaf(site: Site) -> StateId:
 
 
 def refuse(key: bytes, base: Base, sides: Sides) -> Optional[bytes]:
-    raise Unresolved(key, "nobody says what it shall have: give --rules PREFIX=RULE,.., or run this in a terminal, where it asks")
+    raise Unresolved(
+        key, "nobody says what it shall have: give --rules PREFIX=RULE,.., or run this in a terminal, where it asks")
 
 
 def ask_person(key: bytes, base: Base, sides: Sides) -> Optional[bytes]:
@@ -262,7 +263,8 @@ def ask_person(key: bytes, base: Base, sides: Sides) -> Optional[bytes]:
 
 #: the client's own resolvers, by the names that the command has for them: no server has these
 RESOLVERS: Dict[str, Resolve] = {
-    "text": three_way_text, "lines": union_of_lines, "union_of": union_of(","), "counter": counter, "last_writer": last_writer,
+    "text": three_way_text, "lines": union_of_lines, "union_of": union_of(","), "counter": counter,
+    "last_writer": last_writer,
 }
 
 
@@ -286,7 +288,8 @@ def resolver(words: Words) -> Resolve:
 
 
 def step_line(step: MergeStep) -> str:
-    return f"{step.id} joins {', '.join(map(str, step.parents))}" + (f": {', '.join(map(word, step.keys))}" if step.keys else "")
+    keys = f": {', '.join(map(word, step.keys))}" if step.keys else ""
+    return f"{step.id} joins {', '.join(map(str, step.parents))}{keys}"
 
 
 def merge(site: Site, words: Words) -> None:
@@ -355,10 +358,12 @@ def parser() -> argparse.ArgumentParser:
     joined = command("merge", merge, "joins all leaves, or the states that are named; asks for each conflict where no rules are given")
     joined.add_argument("states", metavar="STATE", nargs="*")
     how = joined.add_mutually_exclusive_group()
-    how.add_argument("--rules", metavar="PREFIX=RULE,..", help=f"by a server's rules: {', '.join(NAMES)}; the longest prefix counts")
-    how.add_argument("--resolvers", metavar="PREFIX=NAME,..", help=f"by the client's own: {', '.join(RESOLVERS)}; the longest prefix counts")
+    how.add_argument("--rules", metavar="PREFIX=RULE,..",
+                     help=f"by a server's rules: {', '.join(NAMES)}; the longest prefix counts")
+    how.add_argument("--resolvers", metavar="PREFIX=NAME,..",
+                     help=f"by the client's own: {', '.join(RESOLVERS)}; the longest prefix counts")
     command("sessions", sessions, "lists the open sessions, and which of them hold the floor")
-    raised = command("raise", raise_floor, "moves the floor down as far as all sessions allow, or to a state: what lies above may be collected")
+    raised = command("raise", raise_floor, "moves the floor to a state, or as far as all sessions allow")
     raised.add_argument("state", metavar="STATE", nargs="?", help="to this state; else as far as it may go")
     command("tidy", tidy, "collects the states that lie above every floor, which nobody reads any more")
     exported = command("export", export, "writes the keys and values of a state, as `tardis import` reads them", False)

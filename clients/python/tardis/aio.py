@@ -227,7 +227,8 @@ class Site:
                 if self._timeout is not None and conversation.waiting < waiting:
                     end = time.monotonic() + self._timeout
             if conversation.may_be_turned_away is not None:
-                # a server that has no place for the connection ends it behind its reply; one that has no session for it doesn't
+                # a server that has no place for the connection ends it behind its reply; one that has no session for
+                # it doesn't
                 with contextlib.suppress(asyncio.TimeoutError):
                     await self._link.wait(END)
         except BaseException as fault:

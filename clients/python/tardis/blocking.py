@@ -158,7 +158,8 @@ class Site:
             self._break_off(fault, answers)
 
     def _wait_for_the_end(self) -> None:
-        """A server that has no place for the connection ends it behind its reply; one that has no session for it doesn't."""
+        """A server that has no place for the connection ends it behind its reply; one that has no session for it
+        doesn't."""
         self._stream.settimeout(END)
         with contextlib.suppress(socket.timeout, TimeoutError):
             self._take(self._stream.recv(PIECE))
@@ -254,9 +255,9 @@ class Site:
     # sessions
 
     def open(self, follow: bool = True) -> StateId:
-        """Opens this client's session, and gives its ceiling. A session follows: its ceiling moves along with each commit, and with
-        each transaction that only read, so that the site may collect what lies above it. With `follow=False` it may read for as long
-        as it is open whatever is kept now, and the site keeps that."""
+        """Opens this client's session, and gives its ceiling. A session follows: its ceiling moves along with each
+        commit, and with each transaction that only read, so that the site may collect what lies above it. With
+        `follow=False` it may read for as long as it is open whatever is kept now, and the site keeps that."""
         return self._run(ask(requests.open_session(follow)))
 
     def close(self) -> None:

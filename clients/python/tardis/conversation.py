@@ -8,7 +8,8 @@ from collections import deque
 from typing import Any, Callable, Deque, Generic, Optional, Sequence, TypeVar
 
 from .codes import QuestionCode, RequestCode
-from .refusals import FORK_POINTS, Disconnected, NoMemory, ProtocolError, Refused, SessionsFull, TooMany, TooManyConnections
+from .refusals import (
+    FORK_POINTS, Disconnected, NoMemory, ProtocolError, Refused, SessionsFull, TooMany, TooManyConnections)
 from .replies import LONGEST_FRAME, Reply, read_reply
 from .requests import Request, frame
 
@@ -20,8 +21,8 @@ T = TypeVar("T")
 FIRST_QUESTION = bytes((min(QuestionCode),))
 ASKS_BASE = bytes((QuestionCode.BASE,))
 OPENS = bytes((RequestCode.OPEN,))
-#: how the one frame begins that a server sends to a connection for which it has no place: its length, and `refused connectionsfull`,
-#: or of an older server `refused sessionsfull`
+#: how the one frame begins that a server sends to a connection for which it has no place: its length, and `refused
+#: connectionsfull`, or of an older server `refused sessionsfull`
 TURNED_AWAY = (b"\0\0\0\x06\x15\x1e", b"\0\0\0\x04\x15\x04")
 
 
@@ -83,7 +84,8 @@ class Conversation:
         self._is_answered = False
         #: set where the server turned the connection away
         self.turned_away: Optional[TooManyConnections] = None
-        #: set where it may have: the first reply was that there are too many, and whether of sessions or of connections the end tells
+        #: set where it may have: the first reply was that there are too many, and whether of sessions or of
+        #: connections the end tells
         self.may_be_turned_away: Optional[TooManyConnections] = None
 
     @property
@@ -125,8 +127,8 @@ class Conversation:
             place += 4 + length
         if place:
             del self._held[:place]
-        is_turned_away = not self._is_answered and any(begin.startswith(self._held[:len(begin)]) for begin in TURNED_AWAY)
-        if self._held and not self._waiting and not is_turned_away:
+        may_be_turned_away = any(begin.startswith(self._held[:len(begin)]) for begin in TURNED_AWAY)
+        if self._held and not self._waiting and (self._is_answered or not may_be_turned_away):
             raise ProtocolError("a reply came that nobody asked for")
 
     def _give(self, body: bytes) -> None:
@@ -144,7 +146,8 @@ class Conversation:
         if not self._waiting:
             raise ProtocolError("a reply came that nobody asked for")
         is_first, self._is_answered = not self._is_answered, True
-        self.may_be_turned_away = TooManyConnections(reply.sessions) if is_first and isinstance(reply, SessionsFull) else None
+        is_full = is_first and isinstance(reply, SessionsFull)
+        self.may_be_turned_away = TooManyConnections(reply.sessions) if is_full else None
         answer = self._waiting[0]
         _check_told(asked, body[:1], reply)
         answer.give(reply)

@@ -18,6 +18,8 @@ __all__ = ["Core", "Finished"]
 
 #: old states that were never told of are looked for by so many of these
 MOST_ROUNDS = 25
+#: a history of more states than these is learned by Pull, where that is let in
+MANY = 500
 
 
 class Finished(NamedTuple):
@@ -43,7 +45,8 @@ def _by_paths(id: StateId, shows: Dict[StateId, Shown]) -> List[StateId]:
 
 def _between(seen: Sequence[int], counts: Sequence[int]) -> List[StateId]:
     """The states that each site made since it had made so many."""
-    return [StateId(site, sequence) for site, (old, count) in enumerate(zip(seen, counts), 1) for sequence in range(old + 1, count + 1)]
+    return [StateId(site, sequence) for site, (old, count) in enumerate(zip(seen, counts), 1)
+            for sequence in range(old + 1, count + 1)]
 
 
 class Core:
@@ -63,6 +66,8 @@ class Core:
         self.asking = Asking()
         #: the kept states, as far as questions told of them
         self.kept = Kept(self.asking)
+        #: whether the history is learned by Pull, once that is chosen
+        self._pulls: Optional[bool] = None
 
     def _note(self, request: Request[Any], reply: Reply) -> None:
         """Sees each request and its reply."""
@@ -169,9 +174,12 @@ class Core:
     # what is known of the history
 
     def learn(self) -> Steps[Stat]:
-        """Learns all records that aren't known here yet: by questions, or of a server that answers none by Pull."""
+        """Learns all records that aren't known here yet: by questions, or of a server that answers none by Pull.
+        Where many are kept when it is first asked, and Pull is let in, by Pull too: it gives many in one answer."""
         stat = yield from ask(requests.stat())
-        if not self.asking.is_unanswered(QuestionCode.RECORD):
+        if self._pulls is None:
+            self._pulls = stat.kept > MANY and (yield from self._may_pull(len(stat.sites)))
+        if not self._pulls:
             leaves = yield from ask(requests.leaves())
             if (yield from self.kept.look(stat, leaves.first)):
                 told = self.kept.told
@@ -179,7 +187,13 @@ class Core:
                 self.records.learn([(told[id].arrival, record) for id, record in found.items()])
                 self.records.forget(set(told))
                 return stat
+            self._pulls = True
         return (yield from self._pull())
+
+    def _may_pull(self, sites: int) -> Steps[bool]:
+        """Whether this listener lets Pull in: news of nothing are asked for."""
+        answers = yield from ask_all([requests.pull([0xFFFFFFFF] * sites)])
+        return not isinstance(answers[0].error, Unsupported)
 
     def _pull(self) -> Steps[Stat]:
         """Learns by Pull. Where floors moved it asks for all that aren't closed."""
@@ -215,9 +229,9 @@ class Core:
         return History(states, leaves.first, stat, self.ceiling, self.records)
 
     def _kept(self, stat: Stat) -> Steps[Dict[StateId, Optional[Shown]]]:
-        """The states that are kept; of a server that answers no questions also what is shown of those that are closed: only these may
-        be collected."""
-        if self.kept.told:
+        """The states that are kept; of a server that answers no questions also what is shown of those that are
+        closed: only these may be collected."""
+        if not self._pulls:
             return {id: None if id != ROOT else Shown(0, (), ()) for id in self.kept.told}
         records = self.records
         kept: Dict[StateId, Optional[Shown]] = {id: None for id in records.open}
@@ -252,8 +266,13 @@ class Core:
         """The kept states, those whose records were never told before the others, each with the kept states that lead to it."""
         records = self.records.records
         old = sorted((shown.arrival, id) for id, shown in kept.items() if id not in records and shown is not None)
+        # (a server that doesn't answer the question gives none)
+        recorded = yield from self.asking.recorded([id for _, id in old if id != ROOT])
+        told = yield from self.asking.records(recorded or {})
         ids = [*(id for _, id in old), *(id for id in self.records.in_order(kept) if id != ROOT)]
         leading = {id: self.records.leading(id, kept) for id in ids if id != ROOT}
+        leading.update({id: record.parents for id, record in told.items()
+                        if all(parent in kept for parent in record.parents)})
         unsure = [id for id, found in leading.items() if found is None]
         shows: Dict[StateId, Shown] = {id: shown for id, shown in kept.items() if shown is not None}
         if unsure:
@@ -262,7 +281,7 @@ class Core:
         for id in ids:
             found = leading.get(id, ())
             parents = _by_paths(id, shows) if found is None else found
-            record = records.get(id)
+            record = records.get(id) or told.get(id)
             states.append(State(id, tuple(parents), record.writes if record is not None else () if id == ROOT else None))
         return states
 
@@ -276,13 +295,13 @@ class Core:
         return walk
 
     def _all_leaves(self) -> Steps[Sequence[StateId]]:
-        """The leaves, and where the site lists only some, perhaps other states too: one that has no kept child; or by Pull, which gives
-        the record of each leaf that is no floor."""
+        """The leaves, and where the site lists only some, perhaps other states too: one that has no kept child; or
+        by Pull, which gives the record of each leaf that is no floor."""
         leaves = yield from ask(requests.leaves())
         if len(leaves.first) == leaves.total:
             return leaves.first
         yield from self.learn()
-        if self.kept.told:
+        if not self._pulls:
             return [id for id, told in self.kept.told.items() if not told.kept_children]
         records = self.records
         parents = {parent for id in records.open for parent in records.records[id].parents}
@@ -325,8 +344,8 @@ class Core:
         return History((), (), stat, None, self.records)
 
     def news(self, seen: Optional[List[int]]) -> Steps[Tuple[List[int], List[State]]]:
-        """What came since so many states of each site were seen; the first time, nothing. Of a state that was collected before it was
-        asked for only its name is told."""
+        """What came since so many states of each site were seen; the first time, nothing. Of a state that was
+        collected before it was asked for only its name is told."""
         stat = yield from ask(requests.stat())
         counts = [line.count for line in stat.sites]
         if counts == seen:
@@ -337,7 +356,8 @@ class Core:
             return (yield from self._pulled_news(seen))
         records = yield from self.asking.records(told)
         found = sorted(records, key=lambda id: told[id].arrival)
-        return counts, [*(State(id, (), None) for id in new if id not in records), *(State(*records[id]) for id in found)]
+        missed = [State(id, (), None) for id in new if id not in records]
+        return counts, [*missed, *(State(*records[id]) for id in found)]
 
     def _pulled_news(self, seen: Optional[List[int]]) -> Steps[Tuple[List[int], List[State]]]:
         """The same of a server that answers no questions."""

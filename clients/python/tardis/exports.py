@@ -73,8 +73,8 @@ def put_entries(site: Site, entries: Iterable[Tuple[bytes, bytes]]) -> List[Stat
 
 
 def put_in_place(whole: IO[bytes], path: str) -> None:
-    """Copies what is whole to the path: to a file beside it first, which takes its name once it is on the disk. So what stood there
-    stays as it was until then, whatever happens. A pipe or a device is written to as it is."""
+    """Copies what is whole to the path: to a file beside it first, which takes its name once it is on the disk. So
+    what stood there stays as it was until then, whatever happens. A pipe or a device is written to as it is."""
     whole.seek(0)
     place = os.path.realpath(path)
     if os.path.exists(place) and not os.path.isfile(place):

@@ -142,7 +142,8 @@ class Records:
     def ancestry(self) -> Ancestry:
         """What follows from the records, until others come."""
         if self._ancestry is None:
-            self._ancestry = Ancestry({id: self.records[id] for id in sorted(self.records, key=self._place.__getitem__)})
+            ordered = sorted(self.records, key=self._place.__getitem__)
+            self._ancestry = Ancestry({id: self.records[id] for id in ordered})
         return self._ancestry
 
     def forget(self, kept: Set[StateId]) -> None:

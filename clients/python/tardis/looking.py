@@ -87,11 +87,13 @@ class Asking:
         return answers
 
     def recorded(self, states: Sequence[StateId]) -> Steps[Optional[Dict[StateId, Recorded]]]:
-        """What is told of these states; nothing of those that were collected. None where the question isn't answered."""
+        """What is told of these states; nothing of those that were collected. None where the question isn't
+        answered."""
         answers = yield from self.tell([questions.record(state) for state in states])
         if answers is None:
             return None
-        return {state: answer.result() for state, answer in zip(states, answers) if not isinstance(answer.error, Collected)}
+        return {state: answer.result() for state, answer in zip(states, answers)
+                if not isinstance(answer.error, Collected)}
 
     def records(self, told: Dict[StateId, Recorded]) -> Steps[Dict[StateId, Record]]:
         """The records of these states, with what they wrote. One that was collected meanwhile is left out."""
@@ -116,8 +118,8 @@ class Kept:
         self._ahead = 1
 
     def look(self, stat: Stat, leaves: Sequence[StateId]) -> Steps[bool]:
-        """Asks for what isn't known yet, and where states were collected whether the others are kept still. False where the server
-        doesn't answer."""
+        """Asks for what isn't known yet, and where states were collected whether the others are kept still. False
+        where the server doesn't answer."""
         collected, self._ahead = stat.known - stat.kept, 1
         if collected != self._collected:
             again, self.told = list(self.told), {}
@@ -138,7 +140,8 @@ class Kept:
         return True
 
     def _ascend(self, wanted: Sequence[StateId]) -> Steps[bool]:
-        """Asks for these states and for what lies above them, as far as it isn't known. False where the server doesn't answer."""
+        """Asks for these states and for what lies above them, as far as it isn't known. False where the server
+        doesn't answer."""
         while wanted:
             found = yield from self._ask(self._and_before(wanted))
             if found is None:
@@ -157,14 +160,14 @@ class Kept:
         return state not in self.told and state not in self._gone
 
     def _and_before(self, wanted: Sequence[StateId]) -> List[StateId]:
-        """These states and some with the numbers before theirs, which are likely to be above them: so a branch isn't asked for state by
-        state. Of twice as many each time, unless most of them turned out to be gone."""
+        """These states and some with the numbers before theirs, which are likely to be above them: so a branch isn't
+        asked for state by state. Of twice as many each time, unless most of them turned out to be gone."""
         asked = dict.fromkeys(state for state in wanted if self._is_new(state))
         for back in range(1, self._ahead):
             if len(asked) >= AT_ONCE:
                 break
-            asked.update(dict.fromkeys(state for state in (StateId(one.site, one.sequence - back) for one in wanted if one.sequence > back)
-                                       if self._is_new(state)))
+            before = [StateId(one.site, one.sequence - back) for one in wanted if one.sequence > back]
+            asked.update(dict.fromkeys(state for state in before if self._is_new(state)))
         return list(asked)
 
     def _above(self, found: Dict[StateId, Recorded]) -> Steps[List[StateId]]:

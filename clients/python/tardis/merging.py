@@ -144,8 +144,8 @@ class _Merger:
                 current = yield from self._join_two(current, state)
 
     def _join_by_rules(self, states: Sequence[StateId]) -> Steps[None]:
-        """Joins two after another, as a server does: of those that arrived last the first two of which the rules settle each key. Where
-        some stay apart, the first reason is raised once the others are joined."""
+        """Joins two after another, as a server does: of those that arrived last the first two of which the rules
+        settle each key. Where some stay apart, the first reason is raised once the others are joined."""
         left = yield from self._by_arrival(states)
         apart: Dict[Tuple[StateId, ...], Unresolved] = {}
         while True:
@@ -236,7 +236,8 @@ class _Merger:
                 yield from self.core.give_up()
             raise
         if len(settled) == len(told):
-            return (yield from self._commit([self._writing(key, value, told[key]) for key, value in settled.items()], keys.first))
+            agreed = [self._writing(key, value, told[key]) for key, value in settled.items()]
+            return (yield from self._commit(agreed, keys.first))
         yield from self.core.give_up()
         bases = yield from self._bases([key for key in told if key not in settled], sides, forks)
         written = [self._writing(key, settled[key] if key in settled else self.resolve(key, bases[key], side), side)
@@ -266,7 +267,8 @@ class _Merger:
         """What writes the key's value; which side's value it is, is remembered."""
         data = value.encode() if isinstance(value, str) else value
         if isinstance(data, bytes) and len(data) > LONGEST_VALUE:
-            raise Unresolved(key, f"its merged value has {len(data):,} bytes, and a value at most {LONGEST_VALUE:,}: spread it over several keys")
+            raise Unresolved(key, f"its merged value has {len(data):,} bytes, and a value at most {LONGEST_VALUE:,}: "
+                                  "spread it over several keys")
         self._taken.pop(key, None)
         writers = [writer for side, writer in sides.writers.items() if writer is not None and sides[side] == data]
         if writers:
@@ -304,8 +306,8 @@ class _Merger:
             for fork in forks.first:
                 at_forks.append((yield from self._read_at(fork, keys)))
             reads = {key: [told[key] for told in at_forks] for key in keys}
-        bases = {key: UNKNOWN if forks.total > 1 and is_asked_of_one_fork_point(self.resolve, key) else _one_base(reads[key])
-                 for key in keys}
+        unknown = {key for key in keys if forks.total > 1 and is_asked_of_one_fork_point(self.resolve, key)}
+        bases = {key: UNKNOWN if key in unknown else _one_base(reads[key]) for key in keys}
         open_ones = [key for key in keys if bases[key] is UNKNOWN and is_asked_of_fork_points(self.resolve, key)]
         if open_ones and forks.total > 1:
             yield from self.core.learn()

@@ -10,10 +10,11 @@ from .codes import QuestionCode, RequestCode
 from .ids import StateId
 
 __all__ = [
-    "AlreadyOpen", "BadSite", "BagFull", "Below", "Branches", "CeilingBack", "ClosedParent", "Collected", "Comparable",
-    "ConflictKey", "Disconnected", "FloorBack", "Full", "Held", "Malformed", "NoBranch", "NoMemory", "NoQuestions", "NoSuchItem",
-    "NoTxn", "NotOpen", "NotRead", "OpenConflict", "OwnItem", "PathFull", "ProtocolError", "Refused", "SeqEnd", "SessionsFull",
-    "TooMany", "TooManyConnections", "TrailFull", "TxnOpen", "Unknown", "Unresolved", "Unsupported", "WrongMode",
+    "AlreadyOpen", "BadSite", "BagFull", "Below", "Branches", "CeilingBack", "ClosedParent", "Collected",
+    "Comparable", "ConflictKey", "Disconnected", "FloorBack", "Full", "Held", "Malformed", "NoBranch", "NoMemory",
+    "NoQuestions", "NoSuchItem", "NoTxn", "NotOpen", "NotRead", "OpenConflict", "OwnItem", "PathFull",
+    "ProtocolError", "Refused", "SeqEnd", "SessionsFull", "TooMany", "TooManyConnections", "TrailFull", "TxnOpen",
+    "Unknown", "Unresolved", "Unsupported", "WrongMode",
 ]
 
 Field = object
@@ -24,8 +25,9 @@ FORK_POINTS = "fork points"
 #: the question Life, which asks who a site is
 LIFE = 71
 #: what `tardisd` lets in where it listens for clients (`--clients`), and where for other sites (`--peers`)
-FOR_CLIENTS = {code.value for code in RequestCode if code not in (
-    RequestCode.RAISE, RequestCode.RAISE_AUTO, RequestCode.TIDY, RequestCode.PULL, RequestCode.DELIVER, RequestCode.SETTLE)}
+OF_OPERATORS = (RequestCode.RAISE, RequestCode.RAISE_AUTO, RequestCode.TIDY, RequestCode.PULL, RequestCode.DELIVER,
+                RequestCode.SETTLE)
+FOR_CLIENTS = {code.value for code in RequestCode if code not in OF_OPERATORS}
 FOR_CLIENTS |= {code.value for code in QuestionCode if code != QuestionCode.SESSIONS} | {LIFE}
 FOR_PEERS = {RequestCode.STAT.value, RequestCode.PULL.value, QuestionCode.RECORD.value, QuestionCode.SITE.value, LIFE}
 
@@ -54,13 +56,13 @@ class TooManyConnections(Disconnected):
         self.connections = connections
 
     def __str__(self) -> str:
-        return (f"the server has {self.connections:,} connections, which are all that it may: disconnect one, try again later, "
-                "or start the server with a larger --connections")
+        return (f"the server has {self.connections:,} connections, which are all that it may: disconnect one, "
+                "try again later, or start the server with a larger --connections")
 
 
 class Unresolved(Exception):
-    """A merge's `resolve` can't say what a key shall have. What it was asked for changed nothing; `steps` has what the call merged
-    before."""
+    """A merge's `resolve` can't say what a key shall have. What it was asked for changed nothing; `steps` has what
+    the call merged before."""
 
     def __init__(self, key: bytes, why: str) -> None:
         super().__init__(key, why)
@@ -186,9 +188,10 @@ class Below(Refused):
         self.ceiling = ceiling
 
     def advice(self) -> str:
-        return (f"the state {self.state} lies above {self.ceiling}, and this session promised not to begin there any more, or the site "
-                f"did: value_at(key, '{self.state}') reads there for as long as it is kept, and begin() goes on below; who was offline "
-                "since finds in docs/CLIENTS.md, 'A device that is offline', how to merge what it changed")
+        return (f"the state {self.state} lies above {self.ceiling}, and this session promised not to begin there any "
+                f"more, or the site did: value_at(key, '{self.state}') reads there for as long as it is kept, and begin() "
+                "goes on below; who was offline since finds in docs/CLIENTS.md, 'A device that is offline', how to merge "
+                "what it changed")
 
 
 class Comparable(Refused):
@@ -297,8 +300,9 @@ class Collected(Refused):
         self.state = state
 
     def advice(self) -> str:
-        return (f"the state {self.state} was collected, since nobody promised to read there any more: begin() goes on at a newer state, "
-                "and leaves() tells the newest; a server that is started with --keep-history collects none")
+        return (f"the state {self.state} was collected, since nobody would read there any more: begin() goes on at a "
+                "newer state, and leaves() tells the newest; a server that is started with --keep-history collects none "
+                "by itself")
 
 
 class Full(Refused):
@@ -400,7 +404,8 @@ class NoQuestions(Unsupported):
     """`Unsupported`, of a server that answers no questions."""
 
     def advice(self) -> str:
-        return f"{operation_words(self.operation)} was refused, since this server answers no questions: tardisd does, tardis serve doesn't"
+        return (f"{operation_words(self.operation)} was refused, since this server answers no questions: tardisd does, "
+                "tardis serve doesn't")
 
 
 class NoSuchItem(Refused):

@@ -397,8 +397,8 @@ _DONE = bytes((ReplyCode.DONE,))
 
 
 def read_reply(body: bytes) -> Reply:
-    """The reply that the body of a frame spells: a value, or a refusal that isn't raised yet. That there are too many connections is
-    raised: it is nobody's reply."""
+    """The reply that the body of a frame spells: a value, or a refusal that isn't raised yet. That there are too
+    many connections is raised: it is nobody's reply."""
     if body == _DONE:
         return Done()
     r = Reader(body)

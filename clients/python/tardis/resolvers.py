@@ -116,8 +116,9 @@ counter: Resolve = ReadyMade(_count, of_equal_sides=True)
 
 def union_of(separator: Bytes) -> Resolve:
     """A set of items with this between each two. What some side added is there; what a side took out of the base is gone.
-    Where the base isn't known, what some side has is there. Items are read in any order, and written ascending, each once, so that the
-    rules `set` and `set3` of a server can read what `union_of(",")` wrote. What all sides deleted stays deleted."""
+    Where the base isn't known, what some side has is there. Items are read in any order, and written ascending, each
+    once, so that the rules `set` and `set3` of a server can read what `union_of(",")` wrote. What all sides deleted
+    stays deleted."""
     between = separator.encode() if isinstance(separator, str) else separator
     return ReadyMade(lambda key, base, sides: _union(between, base, sides), of_equal_sides=True)
 

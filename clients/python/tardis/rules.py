@@ -1,5 +1,5 @@
-"""Merge rules, exactly as a server has them (`docs/RULES.md`): how they are written, and the value that each gives to a key that two
-sides wrote. The other ready-made resolvers have names of their own, and do what no server does."""
+"""Merge rules, exactly as a server has them (`docs/RULES.md`): how they are written, and the value that each gives
+to a key that two sides wrote. The other ready-made resolvers have names of their own, and do what no server does."""
 
 import re
 from typing import Dict, List, Optional
@@ -19,11 +19,12 @@ _LEAST, _MOST = -2**63, 2**63 - 1
 
 
 class Rules:
-    """A resolver that goes by the rules of a text, as `--rules` of a server has it: `cart/=set,visits/=count`. The rule of a key is that
-    of the longest prefix that begins it, and `refuse` where none does. A text that is no rules is a `ValueError`.
+    """A resolver that goes by the rules of a text, as `--rules` of a server has it: `cart/=set,visits/=count`. The
+    rule of a key is that of the longest prefix that begins it, and `refuse` where none does. A text that is no rules
+    is a `ValueError`.
 
-    Leaves are joined two at a time, in the order in which a server joins them; two of which a rule gives no value stay apart, and
-    `Unresolved` says why. The base is known where the two parted at one state alone."""
+    Leaves are joined two at a time, in the order in which a server joins them; two of which a rule gives no value
+    stay apart, and `Unresolved` says why. The base is known where the two parted at one state alone."""
 
     def __init__(self, text: str) -> None:
         self.text = text
@@ -31,7 +32,8 @@ class Rules:
         for part in text.encode().split(b","):
             prefix, _, name = part.partition(b"=")
             if not _PREFIX.fullmatch(prefix) or name.decode(errors="replace") not in NAMES:
-                raise ValueError(f"a rule is PREFIX={'|'.join(NAMES)}, with a prefix of at most 64 bytes from ! to ~, and not {part.decode()!r}")
+                raise ValueError(f"a rule is PREFIX={'|'.join(NAMES)}, with a prefix of at most 64 bytes from ! to ~, "
+                                 f"and not {part.decode()!r}")
             if prefix in self._rules:
                 raise ValueError(f"there are two rules for the prefix {prefix.decode()!r}")
             self._rules[prefix] = name.decode()
@@ -54,7 +56,7 @@ class Rules:
         if rule == "set3":
             return _three_way(key, base, sides)
         has_one = any(key.startswith(prefix) for prefix in self._rules)
-        raise Unresolved(key, "its rule is `refuse`" if has_one else "no rule's prefix begins it, so its rule is `refuse`")
+        raise Unresolved(key, ("" if has_one else "no rule's prefix begins it, so ") + "its rule is `refuse`")
 
     # how a merge asks it
 
@@ -83,7 +85,8 @@ def _number(key: bytes, value: Optional[bytes]) -> int:
         return 0
     number = int(value) if _NUMBER.fullmatch(value) else None
     if number is None or not _LEAST <= number <= _MOST:
-        raise Unresolved(key, f"{value!r} is no number: one is written in decimal, without leading zeros, and fits 64 bits")
+        raise Unresolved(
+            key, f"{value!r} is no number: one is written in decimal, without leading zeros, and fits 64 bits")
     return number
 
 

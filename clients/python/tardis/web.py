@@ -176,7 +176,8 @@ class Handler(http.server.BaseHTTPRequestHandler):
             self.send(413, b"a body has a length, and at most a mebibyte", "text/plain")
             return
         body = self.rfile.read(int(length))
-        if not self.is_from_here() or self.headers.get("Content-Type") != "application/json":
+        # (another site's page can't send this type without asking first)
+        if not self.is_from_here() or self.headers.get_content_type() != "application/json":
             self.send(403, b"this page is for 127.0.0.1 alone", "text/plain")
         elif self.path == "/api/merge":
             self.call(lambda: self.merge(body))
@@ -201,6 +202,7 @@ class Handler(http.server.BaseHTTPRequestHandler):
         self.send_response(status)
         self.send_header("Content-Type", kind)
         self.send_header("Content-Length", str(len(body)))
+        self.send_header("X-Content-Type-Options", "nosniff")
         self.send_header("Cache-Control", "no-store")
         self.send_header("Content-Security-Policy", POLICY)
         self.end_headers()

@@ -1,5 +1,6 @@
 """The command for people, `python -m tardis`, and what the page asks."""
 
+import contextlib
 import io
 import json
 import os
@@ -18,6 +19,7 @@ from unittest import mock
 
 from servers_here import CLIENT, PATIENCE, OfModel, OfTardisd, OverServers, tardis
 
+from tardis.__main__ import run  # noqa: E402
 from tardis.exports import put_in_place, write_export  # noqa: E402
 from tardis.layout import lay_out  # noqa: E402
 from tardis.pictures import word  # noqa: E402
@@ -25,12 +27,18 @@ from tardis.pictures import word  # noqa: E402
 
 class Command(OverServers):
     def run_it(self, *words, status=0, text=""):
-        """What a command prints."""
-        told = subprocess.run([sys.executable, "-m", "tardis", *words], cwd=CLIENT, input=text.encode(), stdout=subprocess.PIPE,
-                              stderr=subprocess.PIPE, timeout=60, env={**os.environ, "PYTHONIOENCODING": "utf-8"})
-        self.assertEqual(told.returncode, status, told.stderr.decode())
-        self.errors = told.stderr.decode()
-        return told.stdout.decode()
+        """What a command prints. It runs here, as its own process would."""
+        out, errors = (io.TextIOWrapper(io.BytesIO(), "utf-8", write_through=True) for _ in range(2))
+        ended = 0
+        with mock.patch("sys.argv", ["tardis", *words]), mock.patch("sys.stdin", io.StringIO(text)), contextlib.redirect_stdout(out), \
+                contextlib.redirect_stderr(errors):
+            try:
+                run()
+            except SystemExit as end:
+                ended = end.code or 0
+        self.errors = errors.buffer.getvalue().decode()
+        self.assertEqual(ended, status, self.errors)
+        return out.buffer.getvalue().decode()
 
     def fork(self):
         """A cart of two leaves."""
@@ -103,7 +111,11 @@ class Command(OverServers):
         told = self.run_it("merge", self.address, "--rules", "cart=last", status=1)
         self.assertEqual((told, self.errors), ("1.14 joins 1.11, 1.13: cart\n",
             "tardis: the key b'price' can't be resolved: no rule's prefix begins it, so its rule is `refuse`\n"))
-        self.assertEqual(self.connect().stat().sessions, 0)
+        # the site sees the end of a connection when it sees it
+        site, end = self.connect(), time.monotonic() + PATIENCE
+        while site.stat().sessions and time.monotonic() < end:
+            time.sleep(0.01)
+        self.assertEqual(site.stat().sessions, 0)
 
     def test_exporting(self):
         self.fork()
@@ -233,11 +245,23 @@ class Command(OverServers):
                 {"key": "cart", "known": True, "base": "tea", "sides": ["tea,milk", "tea,jam"]}]))
             self.assertEqual(ask("api/compare?one=1.2&other=1.1")[0], 409)
             merge = {"one": "1.2", "other": "1.3", "values": [["cart", "all"]]}
+            # a form of another site's page can send text alone, and no page takes what is told for one
+            for kind in ("text/plain", "application/x-www-form-urlencoded", "multipart/form-data", "text/application/json", ""):
+                self.assertEqual(ask("api/merge", merge, **{"Content-Type": kind})[0], 403, kind)
+            for path, kind in [("", "text/html; charset=utf-8"), ("api/history", "application/json"), ("api/state?id=1.2", "application/json"),
+                               ("api/state?id=1.9", "application/json"), ("nothing", "text/plain")]:
+                try:
+                    with urllib.request.urlopen(page + path, timeout=PATIENCE) as told:
+                        headers = told.headers
+                except urllib.error.HTTPError as fault:
+                    with fault:
+                        headers = fault.headers
+                self.assertEqual((headers["Content-Type"], headers["X-Content-Type-Options"]), (kind, "nosniff"), path)
             # another site's page can't merge, nor a name that points here
             self.assertEqual(ask("api/merge", merge, Origin="http://elsewhere.example")[0], 403)
             self.assertEqual(ask("api/merge", merge, Host="elsewhere.example")[0], 403)
             self.assertEqual(ask("api/merge", {**merge, "values": []})[0], 409)
-            self.assertEqual(ask("api/merge", merge), (200, b'{"id": "1.4"}'))
+            self.assertEqual(ask("api/merge", merge, **{"Content-Type": "Application/JSON; charset=utf-8"}), (200, b'{"id": "1.4"}'))
             self.assertEqual(ask("api/nothing")[0], 404)
             site = self.connect()
             self.assertEqual((dict(site.items("1.4").items)[b"cart"], site.stat().sessions), (b"all", 0))

@@ -4,9 +4,10 @@ import contextlib
 import os
 import signal
 import sys
+import time
 import unittest
 
-from servers_here import TOP, OfModel, OfTardisd, OverServers, tardis
+from servers_here import PATIENCE, TOP, OfModel, OfTardisd, OverServers, tardis
 
 sys.path.insert(0, os.path.join(TOP, "examples"))
 
@@ -65,6 +66,10 @@ class Device(OverServers):
                 device.phone_writes(phone, others)
             items, visits = items - {gone} | {mine, others}, visits + 3
             if is_collected:
+                # (the site sees the end of the device's connection when it sees it, and its session holds the floor until then)
+                end = time.monotonic() + PATIENCE
+                while phone.stat().sessions > 1 and time.monotonic() < end:
+                    time.sleep(0.01)
                 phone.raise_floor(), phone.tidy()
                 self.assertRaises(tardis.Collected, phone.show, device.load(path)["state"])
             was_killed = killed_after(steps, lambda: device.come_back(self.address, path))

@@ -78,19 +78,25 @@ class Listeners(OverServers):
                 line.begin("parent"), line.put("x", str(number)), line.commit()
             for number in range(270):
                 line.begin(StateId(1, 300)), line.get("x"), line.put("x", str(number)), line.commit()
-        asked = []
-        exchange = user._exchange
-        user._exchange = lambda answers: (asked.append(len(answers)), exchange(answers))[1]
-        history = user.history()
-        self.assertEqual([state.id.sequence for state in history], list(range(571)))
-        self.assertEqual(history[StateId(1, 300)].writes, (tardis.Write(b"x", b"299"),))
-        self.assertLess(len(asked), 40)
-        del asked[:]
-        with user.transaction(at="any") as txn:
-            txn.put("late", "1")
-        del asked[:]
-        self.assertEqual(len(user.history()), 572)
-        self.assertLess(sum(asked), 40)
+        for number, site in enumerate((user, self.connect())):
+            asked = []
+
+            def counting(answers, exchange=site._exchange):
+                asked.append(len(answers))
+                exchange(answers)
+
+            site._exchange = counting
+            history = site.history()
+            self.assertEqual([state.id.sequence for state in history], list(range(571 + number)))
+            self.assertEqual(history[StateId(1, 300)].writes, (tardis.Write(b"x", b"299"),))
+            self.assertLess(len(asked), 40)
+            with user.transaction(at="any") as txn:
+                txn.put("late", "1")
+            del asked[:]
+            self.assertEqual(len(site.history()), 572 + number)
+            self.assertLess(sum(asked), 40)
+        # where Pull is let in, it gives a long history in some answers
+        self.assertIs(site._core._pulls, True)
 
     def test_what_users_do(self):
         own, user, fork = self.grown()

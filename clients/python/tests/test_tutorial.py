@@ -7,6 +7,7 @@
 import code
 import contextlib
 import io
+import json
 import os
 import re
 import select
@@ -17,21 +18,24 @@ import tempfile
 import textwrap
 import time
 import unittest
+import urllib.request
 
-from servers_here import CLIENT, TARDISD, TOP, free_port, is_built
+from servers_here import CLIENT, TARDISD, TOP, free_port, is_built, keeping_history
 
 PAGE = os.path.join(TOP, "docs", "TUTORIAL.md")
 PICTURE = os.path.join(TOP, "docs", "cart.svg")
 #: no command takes longer, in seconds
 PATIENCE = 60
 MARK = "-- the command is over --"
+#: the first of these that is installed looks at the page
+BROWSERS = ("chromium", "chromium-browser", "google-chrome")
 
 
 class Step:
-    """A command or a statement, the answer that stands below it, and where."""
+    """A command or a statement, the answer that stands below it, and where. Or what is done on the page, and what this says then."""
 
-    def __init__(self, is_python, first):
-        self.is_python, self.source, self.answer, self.line = is_python, [first], [], 0
+    def __init__(self, is_python, first, is_on_page=False):
+        self.is_python, self.source, self.answer, self.line, self.is_on_page = is_python, [first], [], 0, is_on_page
 
 
 def steps_of(text):
@@ -40,6 +44,9 @@ def steps_of(text):
         words = line[4:] if line.startswith("    ") else None
         if words is None:
             step = None
+            if "press *Merge*" in line:
+                steps.append(Step(False, line, True))
+                steps[-1].answer = re.findall("The page says `([^`]*)`", line)
         elif words.startswith(("$ ", ">>> ")):
             step = Step(words.startswith(">"), words.split(" ", 1)[1])
             steps.append(step)
@@ -69,10 +76,14 @@ class Runner:
         return text.replace(self.folder, "/tmp/tutorial").replace(self.port, "8000")
 
     def run(self, step):
+        if step.is_on_page:
+            return [self.on_the_page("http://127.0.0.1:%s/" % self.port)]
         answer = self.python(step.source) if step.is_python else self.command(step.source[0])
         return [line or "<BLANKLINE>" for line in self.page(answer).split("\n")[:-1]]
 
     def command(self, source):
+        if not keeping_history():
+            source = source.replace(" --keep-history", "")
         words = self.here(source).replace("./tardisd", TARDISD).replace("python3 ", sys.executable + " ")
         self.shell.stdin.write(("%s\necho '%s'\n" % (words, MARK)).encode())
         self.shell.stdin.flush()
@@ -85,6 +96,41 @@ class Runner:
             assert more, "the shell ended: %r" % told
             told += more.decode()
         return told.replace(MARK + "\n", "")
+
+    def on_the_page(self, page):
+        """Ticks both leaves, compares them, takes what the first has, and merges; and what the page says then. Without a browser it asks
+        what the page asks."""
+        browser = next(filter(None, map(shutil.which, BROWSERS)), None)
+        if browser is not None:
+            return self.in_a_browser(browser, page)
+
+        def ask(path, body=None):
+            data = None if body is None else json.dumps(body).encode()
+            with urllib.request.urlopen(urllib.request.Request(page + path, data, {"Content-Type": "application/json"}), timeout=PATIENCE) as told:
+                return json.load(told)
+
+        leaves = ask("api/history?have=")["leaves"]
+        compared = ask("api/compare?one=%s&other=%s" % tuple(leaves))
+        values = [[conflict["key"], conflict["sides"][0]] for conflict in compared["conflicts"]]
+        return "Joined as %s." % ask("api/merge", {"one": compared["states"][0], "other": compared["states"][1], "values": values})["id"]
+
+    def in_a_browser(self, program, page):
+        from test_page import Browser
+        folder = tempfile.mkdtemp()
+        browser = Browser(program, folder, page)
+        try:
+            browser.wait("document.querySelectorAll('label.leaf input').length === 2")
+            for place in (0, 1):
+                browser.click("document.querySelectorAll('label.leaf input')[%d]" % place)
+            browser.click("document.getElementById('compare')")
+            browser.wait("document.querySelectorAll('.conflict').length === 1")
+            browser.click("document.querySelectorAll('.conflict .side button')[1]")
+            browser.click("document.getElementById('join')")
+            browser.wait("document.getElementById('merged') !== null")
+            return browser.run("document.getElementById('merged').textContent")
+        finally:
+            browser.close()
+            shutil.rmtree(folder, ignore_errors=True)
 
     def python(self, source):
         told = io.StringIO()
@@ -113,8 +159,12 @@ class Tutorial(unittest.TestCase):
         if not is_built(TARDISD):
             raise unittest.SkipTest("tardisd isn't built")
         with open(PAGE, encoding="utf-8") as file:
-            steps = steps_of(file.read())
+            text = file.read()
+        # each command that names a site stands in a block, and is run
+        self.assertNotRegex(text, r"`[^`\n]*(python3|tardisd)[^`\n]* unix:[^`\n]*`")
+        steps = steps_of(text)
         self.assertGreater(len(steps), 40)
+        self.assertEqual([step.answer for step in steps if step.is_on_page], [["Joined as 1.10."]])
         runner = Runner()
         self.addCleanup(runner.close)
         for step in steps:
@@ -161,7 +211,7 @@ def write():
                 shutil.copy(os.path.join(runner.folder, "history.svg"), PICTURE)
     finally:
         runner.close()
-    for step, answer in reversed(answers):
+    for step, answer in reversed([it for it in answers if not it[0].is_on_page]):
         lines[step.line - len(step.answer) + 1:step.line + 1] = ["    " + line for line in answer]
     with open(PAGE, "w", encoding="utf-8") as file:
         file.write("\n".join(lines))
