@@ -1,5 +1,5 @@
 -- A machine behind doors, and a site behind its own.
-use Rattle.std.proofs.Common.{◌≡◌, ℕ, Bool, true, false, List, Result, Ok, Err, refl, sym, subst, ◌∙◌}
+use Rattle.std.proofs.Common.{◌≡◌, ℕ, Bool, true, false, List, Result, Ok, Err, inl, inr, refl, sym, subst, ◌∙◌}
 use Rattle.std.specs.Prelude.{OnOk, ◌&&◌, ◌||◌, not, if◌then◌else◌}
 use Rattle.std.proofs.lemmas.Bool.{both_ways, or_cases, cond-true, cond-false}
 use Rattle.tardis_base.specs.Plain.{Event, PlainMachine}
