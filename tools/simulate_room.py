@@ -7,7 +7,9 @@ records that the other one lacks, or in some spans ('cut') one, and then the con
 sessions begin at leaves and sites exchange. A run jams if then some site still takes no client's commit.
 
 Policies: none: a commit is refused at N kept states. Else the name is what N is divided by, as 2M-1: a client's commit is refused where so
-many states are kept in all, and two at least; a join at N less half of that, or, with a + behind the name, where the room is full.
+many states are kept in all, and two at least; a join at N less half of that, or, with a + behind the name, where the room is full. MM is
+the square of M. It is the program's (`crates/site_doors/specs/Room.antt`); there peers' records and joins by rules have all the room, and
+the commit of a client's merge has N less half. What the runs showed is in docs/DECISIONS.md, 'The server'.
 
 It prints the records of peers that found no room and the runs that had any, the runs that jam, the most states that a site kept, and the
 part of the clients' commits that was taken.

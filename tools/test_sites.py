@@ -43,7 +43,7 @@ ROOM = 300
 LOOK, SLACK = 0.25, 2.0
 #: a peer that doesn't answer is given up after so many seconds
 GIVEN_UP = 30
-#: so long another site than the one of the lesser leaf waits before it joins, where no words say so
+#: so long another site than the one of the lesser leaf waits before it joins, where no words say so; and twice `--every` at least
 JOIN_AFTER = 30
 LONG = 600
 
@@ -161,7 +161,7 @@ class Group:
     """Sites that all fetch from each other, each over a link of its own; their clients; and what was seen."""
 
     def __init__(self, stack, sites, delay, back, every, rules="all", join_after=None, states=None):
-        self.every, self.rules, self.join_after = every, rules, join_after or JOIN_AFTER
+        self.every, self.rules, self.join_after = every, rules, max(join_after or JOIN_AFTER, 2 * every)
         #: how long an exchange takes at most, and the pause behind it
         self.exchange = every + most(delay) + most(back)
         #: so many exchanges behind the last write no join is made any more, though all exchanges come at once
