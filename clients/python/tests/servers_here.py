@@ -12,7 +12,9 @@ import unittest
 HERE = os.path.dirname(os.path.abspath(__file__))
 CLIENT = os.path.dirname(HERE)
 TOP = os.path.dirname(os.path.dirname(CLIENT))
-sys.path[:0] = [path for path in (CLIENT, os.path.join(TOP, "tools")) if path not in sys.path]
+# (at the end: both folders have a test_package.py, and the tests' own is meant)
+sys.path[:0] = [path for path in (CLIENT,) if path not in sys.path]
+sys.path += [path for path in (os.path.join(TOP, "tools"),) if path not in sys.path]
 
 import tardis  # noqa: E402
 from model import ModelServer  # noqa: E402
