@@ -42,9 +42,8 @@ def keeping_history():
 
 
 def words_of(address, words):
-    """The words that start `tardisd` with these words and the history kept: its options come in one order."""
-    place = min([words.index(word) for word in ("--file", "--rules") if word in words], default=len(words))
-    return [TARDISD, "--listen", address, *words[:place], *keeping_history(), *words[place:]]
+    """The words that start `tardisd` with these words and the history kept."""
+    return [TARDISD, "--listen", address, *words, *keeping_history()]
 
 
 class Process:
@@ -92,7 +91,7 @@ class OfTardisd:
     def start(self, address):
         if not is_built(TARDISD):
             raise unittest.SkipTest("tardisd isn't built")
-        return Process(words_of(address, list(self.words)))
+        return Process(words_of(address, self.words))
 
     words = ()
 
