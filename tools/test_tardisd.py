@@ -180,13 +180,14 @@ class Words(unittest.TestCase):
                       ("--listen", self.address) + ("--peer", self.address) * 16):
             status, told, line = run_words(*words)
             self.assertEqual((status, told), (1, ""), words)
-            self.assertTrue(line.startswith("usage: tardisd --listen ADDR"), line)
+            # (where a word is no option, a line before it says so)
+            self.assertTrue(line.splitlines()[-1].startswith("usage: tardisd --listen ADDR"), line)
         for option, most in ("--states", 65_000), ("--sessions", 4096), ("--connections", 4096):
             for words in ((option, "0"), (option, str(most + 1)), (option, "-1"), (option, "x"), (option, "99999999999"), (option,),
                           (option, "2", option, "2")):
                 status, told, line = run_words("--listen", self.address, *words)
                 self.assertEqual((status, told), (1, ""), words)
-                self.assertTrue(line.startswith("usage: tardisd --listen ADDR"), line)
+                self.assertTrue(line.splitlines()[-1].startswith("usage: tardisd --listen ADDR"), line)
         self.assertEqual(os.listdir(self.folder), [])
 
     def is_refused(self, address, reason):
@@ -438,7 +439,13 @@ class Words(unittest.TestCase):
         self.assertLessEqual(max(more - less for more, less in zip(kept, kept[1:])), 64 * 4)
 
     def test_a_server_that_does_not_collect_keeps_all(self):
-        self.assertEqual(self.kept_after(1000, ()), (1001, 1001))
+        self.assertEqual(self.kept_after(1000, ("--keep-history",)), (1001, 1001))
+
+    def test_the_history_is_kept_wherever_the_word_stands(self):
+        for words in ("--keep-history", "--states", "9"), ("--states", "9", "--keep-history"), ("--keep-history", "--rules", "=last"):
+            server = Server(self.address, words)
+            self.assertIn(" listens ", server.line)
+            server.end()
 
     def fork(self, first, second, *keys):
         """Two sessions read and write the same keys at the root, each what it has for them. Gives what the commits were told."""
@@ -487,7 +494,7 @@ class Words(unittest.TestCase):
 
     def test_a_set_goes_by_what_both_sides_began_with(self):
         """What one side removed goes, and what the other added stays."""
-        server = Server(self.address, ("--rules", "cart/=set3"))
+        server = Server(self.address, ("--rules", "cart/=set3", "--keep-history"))
         self.addCleanup(server.end)
         with server.connect() as first, server.connect() as second:
             ask(first, OPEN, BEGIN, put(b"cart/1", b"bread,milk"), COMMIT, CLOSE)
@@ -796,23 +803,28 @@ class Capacity(unittest.TestCase):
         """And not with the innocent session that is open, and follows."""
         server = self.start("--states", "10", "--sites", "3", "--site", "2")
         connection = self.connect(server)
-        ask(connection, OPEN_FOLLOWING, *[BEGIN, put(b"x", b"1"), COMMIT] * 6)
+        # (six commits of site 1, since clients have a share of the room alone)
+        told = ask(connection, *[b"\x14\x01" + state(1, place) + b"\x01" + (state(1, place - 1) if place > 1 else state(0, 0))
+                                 + b"\x01" + key(b"x") + b"\x01\x00\x01v" for place in range(1, 7)])
+        self.assertEqual(told, [b"\x11"] * 6)
+        self.assertEqual(ask(connection, OPEN_FOLLOWING, b"\x0c" + state(1, 6)), [OPENED, DONE])
         line = r"^no consent of site 1 for [01] seconds lets them be collected: see that it runs and that sites fetch from each other\n$"
         self.assertRegex(self.told_of_seven(server, connection), line)
 
     def test_many_kept_states_are_told_with_how_many_branches_there_are(self):
         """And not with the innocent sessions that are open, and follow."""
         server = self.start("--states", "10")
-        for name in b"xyz":
+        for _ in range(3):
             connection = self.connect(server)
-            ask(connection, OPEN_FOLLOWING, *[BEGIN_AT_OWN, put(b"%c" % name, b"1"), COMMIT_FREELY] * 2)
+            ask(connection, OPEN_FOLLOWING, *[BEGIN_AT_OWN, get(b"x"), put(b"x", b"1"), COMMIT] * 2)
         line = "3 branches that nobody joined hold them: merge them (kumovasil merge), or name rules for their keys (--rules)\n"
         self.assertEqual(self.told_of_seven(server, connection), line)
 
     def test_many_kept_states_are_told_where_nobody_collects(self):
-        server = self.start("--states", "100")
+        server = self.start("--states", "100", "--keep-history")
         ask(self.connect(server), OPEN_FOLLOWING, *[BEGIN, put(b"x", b"1"), COMMIT] * 64)
-        self.assertEqual(first_line(server.process), "tardisd: 65 of 100 states are kept: nobody collects them: start it again with --tidy\n")
+        self.assertEqual(first_line(server.process), "tardisd: 65 of 100 states are kept: with --keep-history none is collected: "
+                                                     "have a client ask for it (kumovasil raise, kumovasil tidy)\n")
 
     def test_sessions_beyond_the_256th(self):
         server = self.start("--connections", "700", "--sessions", "699")

@@ -18,7 +18,7 @@ from typing import Any, AsyncIterator, Awaitable, Callable, Dict, List, Optional
 from . import questions, requests
 from .addresses import not_reached, parse_address, parse_timeout
 from .conversation import Answer, Conversation
-from .core import Core, Finished
+from .core import Core, Finished, ended_full
 from .histories import Difference, History, Items, State
 from .ids import Bytes, StateId, number, prefix_bytes
 from .looking import all_sessions, last_entry
@@ -259,8 +259,11 @@ class Site:
         pipeline = Pipeline(self._core)
         yield pipeline
         if pipeline.answers:
-            async with self._turn, self._wire:
-                await self._exchange(pipeline.answers)
+            async with self._turn:
+                async with self._wire:
+                    await self._exchange(pipeline.answers)
+                if ended_full(pipeline.answers):
+                    await self._run(self._core.go_below())
 
     # sessions
 

@@ -11,7 +11,7 @@ from typing import Any, Callable, Dict, Iterator, List, Optional, Sequence, Tupl
 from . import questions, requests
 from .addresses import not_reached, parse_address, parse_timeout
 from .conversation import Answer
-from .core import Core, Finished
+from .core import Core, Finished, ended_full
 from .histories import Difference, History, Items, State
 from .ids import Bytes, StateId, number, prefix_bytes
 from .looking import all_sessions, last_entry
@@ -251,6 +251,8 @@ class Site:
         if pipeline.answers:
             with self._turn, self._wire:
                 self._exchange(pipeline.answers)
+                if ended_full(pipeline.answers):
+                    self._run(self._core.go_below())
 
     # sessions
 

@@ -9,17 +9,21 @@ from .conversation import Answer, Conversation
 from .histories import Difference, History, Items, Records, State, at_or_above
 from .ids import ROOT, Bytes, StateId, state_id
 from .looking import Asking, Kept, Walk
-from .refusals import CeilingBack, Collected, NoMemory, Refused, Unsupported
+from .refusals import CeilingBack, Collected, Full, NoMemory, Refused, Unsupported
 from .replies import Begun, Closed, Committed, Ended, Merging, Opened, Record, Reply, Shown, Stat, States
 from .requests import At, Request
 from .steps import AT_ONCE, Steps, ask, ask_all
 
-__all__ = ["Core", "Finished"]
+__all__ = ["Core", "Finished", "ended_full"]
 
 #: old states that were never told of are looked for by so many of these
 MOST_ROUNDS = 25
 #: a history of more states than these is learned by Pull, where that is let in
 MANY = 500
+COMMITS = bytes((RequestCode.COMMIT,))
+#: what ends a transaction, or begins another
+ENDS = [bytes((code,)) for code in (
+    RequestCode.OPEN, RequestCode.CLOSE, RequestCode.BEGIN, RequestCode.BEGIN_MERGE, RequestCode.COMMIT, RequestCode.ABORT)]
 
 
 class Finished(NamedTuple):
@@ -41,6 +45,17 @@ def _by_paths(id: StateId, shows: Dict[StateId, Shown]) -> List[StateId]:
     before = [(other, shown) for other, shown in shows.items() if shown.arrival < own.arrival and path.issuperset(shown.path)]
     return [other for other, shown in before
             if not any(shown.arrival < later.arrival and set(later.path).issuperset(shown.path) for _, later in before)]
+
+
+def ended_full(answers: Sequence[Answer[Any]]) -> bool:
+    """Whether the last transaction that these concern is open since there was no room for its commit."""
+    for answer in reversed(answers):
+        code = answer.request.body[:1]
+        if code == COMMITS and isinstance(answer.error, Full):
+            return True
+        if code in ENDS and answer.error is None:
+            return False
+    return False
 
 
 def _between(seen: Sequence[int], counts: Sequence[int]) -> List[StateId]:
@@ -97,7 +112,11 @@ class Core:
 
     def commit(self, serializable: Optional[bool] = None, snapshot: Optional[bool] = None, no_branch: bool = False,
                branches: Optional[int] = None) -> Steps[Union[Committed, Ended]]:
-        ended = yield from ask(self.committing(serializable, snapshot, no_branch, branches))
+        try:
+            ended = yield from ask(self.committing(serializable, snapshot, no_branch, branches))
+        except Full:
+            yield from self.go_below()
+            raise
         yield from self._follow(ended)
         return ended
 
@@ -109,12 +128,33 @@ class Core:
             except (CeilingBack, NoMemory):
                 pass
 
+    def go_below(self) -> Steps[None]:
+        """There was no room for a commit: the transaction ends, and a session that follows moves its ceiling to where it
+        would begin now. Else the ceilings of clients whose commits are all refused would keep what has to be collected."""
+        yield from self.give_up()
+        if not self.follows:
+            return
+        for place in ("any", "ancestor"):
+            try:
+                state = yield from ask(requests.begin(place))
+                yield from self.give_up()
+                if state not in (ROOT, self.ceiling):
+                    yield from self.set_ceiling(state)
+                return
+            except CeilingBack:
+                # the newest state is on another branch: the newest below the own last commit is looked for
+                continue
+            except (Refused, NoMemory):
+                return
+
     def finish(self, serializable: Optional[bool] = None, snapshot: Optional[bool] = None, no_branch: bool = False,
                branches: Optional[int] = None) -> Steps[Finished]:
         """Commits, and tells what stands beside the new state."""
         committing = Answer(self.committing(serializable, snapshot, no_branch, branches))
         leaving = Answer(requests.leaves())
         yield [committing, leaving]
+        if isinstance(committing.error, Full):
+            yield from self.go_below()
         ended = committing.result()
         if isinstance(ended, Ended):
             yield from self._follow(ended)

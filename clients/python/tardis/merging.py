@@ -8,7 +8,8 @@ from .bases import value_together
 from .conversation import Answer
 from .core import Core
 from .ids import LONGEST_VALUE, Bytes, StateId, state_id
-from .refusals import Below, Collected, Comparable, NoMemory, Refused, TooMany, Unknown as UnknownState, Unresolved
+from .refusals import (
+    Below, Collected, Comparable, Full, NoMemory, Refused, TooMany, Unknown as UnknownState, Unresolved)
 from .replies import Committed, Keys, Read, States, Value
 from .requests import At, Request
 from .resolvers import (
@@ -286,6 +287,9 @@ class _Merger:
             for answer in [*first, *writing]:
                 answer.result()
             ended = committing.result()
+        except Full:
+            yield from self.core.go_below()
+            raise
         except (Refused, NoMemory):
             yield from self.core.give_up()
             raise

@@ -1,7 +1,8 @@
 """What is raised: the refusals of a site, each a class of its own, and what ends a connection.
 
-A refusal changes nothing, and the connection goes on. After a `ProtocolError`, a `Disconnected` or a `TimeoutError` the
-connection is closed, and whether the last request was carried out isn't known.
+A refusal changes nothing, and the connection goes on; behind a commit that is refused `Full` the client gives the
+transaction up. After a `ProtocolError`, a `Disconnected` or a `TimeoutError` the connection is closed, and whether the
+last request was carried out isn't known.
 """
 
 from typing import Any, Dict, Tuple, Type
@@ -313,8 +314,8 @@ class Full(Refused):
         self.kept = kept
 
     def advice(self) -> str:
-        return (f"the site keeps {self.kept:,} states, which are all that it may: merge the leaves, open sessions with follow, "
-                "then raise_floor() and tidy()")
+        return (f"the site keeps {self.kept:,} states, which are all that it may where this is asked: merge the leaves, open "
+                "sessions with follow, and try again; docs/OPERATING.md, 'Full', tells what else may be done")
 
 
 class PathFull(Refused):

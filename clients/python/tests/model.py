@@ -1,7 +1,7 @@
 """A site of one, after `docs/MODEL.md`, that answers frames over a Unix socket: the tests' double of a server, where none is
 built. It refuses what sites refuse most often, and holds no limits but those of a transaction and a merge. It answers questions,
 unless it is told not to: then they are malformed, as to every server but `tardisd`. It may have listeners for clients and for other
-sites beside its own, and a bound on its connections."""
+sites beside its own, a bound on its connections, and one on the states that it keeps."""
 
 import itertools
 import os
@@ -12,7 +12,7 @@ import time
 
 ROOT = (0, 0)
 NOT_OPEN, ALREADY_OPEN, TXN_OPEN, NO_TXN, WRONG_MODE, TOO_MANY, UNKNOWN, BELOW, COMPARABLE, NOT_READ, CONFLICT_KEY, OPEN_CONFLICT, BRANCHES, \
-    CEILING_BACK, FLOOR_BACK, HELD, COLLECTED, BAD_SITE = 2, 3, 5, 6, 7, 8, 9, 10, 11, 12, 13, 14, 15, 16, 17, 18, 19, 23
+    CEILING_BACK, FLOOR_BACK, HELD, COLLECTED, FULL, BAD_SITE = 2, 3, 5, 6, 7, 8, 9, 10, 11, 12, 13, 14, 15, 16, 17, 18, 19, 20, 23
 
 
 #: what is let in where it listens for clients, and where for other sites (`docs/COMMANDS.md`)
@@ -71,8 +71,8 @@ class Fields:
 class Model:
     """The site's step."""
 
-    def __init__(self, answers_questions=True):
-        self.answers_questions = answers_questions
+    def __init__(self, answers_questions=True, room=None):
+        self.answers_questions, self.room = answers_questions, room
         self.parents, self.writes, self.children, self.above, self.arrival = {ROOT: ()}, {ROOT: {}}, {ROOT: []}, {ROOT: frozenset([ROOT])}, {ROOT: 0}
         self.order, self.collected, self.sessions, self.floor, self.number = [ROOT], set(), {}, ROOT, 0
 
@@ -237,6 +237,9 @@ class Model:
                 if flags & bit and here >= allowed:
                     raise Refusal(BRANCHES, bytes([bit]) + spelled(landing) + struct.pack(">I", here))
             parents = (landing,)
+        kept = len(self.order) - len(self.collected)
+        if self.room is not None and kept >= self.room:
+            raise Refusal(FULL, struct.pack(">I", kept))
         id = self.add(parents, txn.writes)
         session.txn, session.last = None, id
         if session.follow and self.is_above(session.ceiling, id):
@@ -442,8 +445,8 @@ class ModelServer:
     """Serves a model to all that come, a thread each. `also` has further paths, with what is let in there. Who comes when there are as
     many connections as there may be is told so, and sent away."""
 
-    def __init__(self, path, answers_questions=True, also=(), connections=None, turned_away=b"\0\0\0\x06\x15\x1e\0\0"):
-        self.model, self.lock, self.actors = Model(answers_questions), threading.Lock(), itertools.count(1)
+    def __init__(self, path, answers_questions=True, also=(), connections=None, turned_away=b"\0\0\0\x06\x15\x1e\0\0", room=None):
+        self.model, self.lock, self.actors = Model(answers_questions, room), threading.Lock(), itertools.count(1)
         self.links, self.connections, self.turned_away, self.listeners = [], connections, turned_away, []
         for place, role in [(path, "all"), *dict(also).items()]:
             if os.path.exists(place):

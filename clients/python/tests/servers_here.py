@@ -12,7 +12,9 @@ import unittest
 HERE = os.path.dirname(os.path.abspath(__file__))
 CLIENT = os.path.dirname(HERE)
 TOP = os.path.dirname(os.path.dirname(CLIENT))
-sys.path[:0] = [path for path in (CLIENT, os.path.join(TOP, "tools")) if path not in sys.path]
+# (at the end: both folders have a test_package.py, and the tests' own is meant)
+sys.path[:0] = [path for path in (CLIENT,) if path not in sys.path]
+sys.path += [path for path in (os.path.join(TOP, "tools"),) if path not in sys.path]
 
 import tardis  # noqa: E402
 from model import ModelServer  # noqa: E402
@@ -39,12 +41,20 @@ def keeping_history():
     return ["--keep-history"] if has_word("--keep-history") else []
 
 
+def words_of(address, words):
+    """The words that start `tardisd` with these words and the history kept."""
+    return [TARDISD, "--listen", address, *words, *keeping_history()]
+
+
 class Process:
     """A server that runs until it is stopped."""
 
     def __init__(self, words):
         self.process = subprocess.Popen(words, stdin=subprocess.DEVNULL, stdout=subprocess.DEVNULL, stderr=subprocess.PIPE)
-        first_line(self.process)
+        line = first_line(self.process)
+        if " listens " not in line:
+            stop(self.process)
+            raise AssertionError("the server didn't listen: " + line)
 
     def stop(self):
         if self.process.poll() is None:
@@ -81,7 +91,7 @@ class OfTardisd:
     def start(self, address):
         if not is_built(TARDISD):
             raise unittest.SkipTest("tardisd isn't built")
-        return Process([TARDISD, "--listen", address, *keeping_history(), *self.words])
+        return Process(words_of(address, self.words))
 
     words = ()
 
@@ -107,8 +117,9 @@ class OfModel:
             raise unittest.SkipTest("the model listens at a path")
         also = {address[len("unix:"):]: role[2:] for role, address in zip(self.words[::2], self.words[1::2])
                 if role in ("--clients", "--peers")}
-        bound = dict(zip(self.words[::2], self.words[1::2])).get("--connections")
-        return ModelServer(address[len("unix:"):], self.answers_questions, also, None if bound is None else int(bound))
+        bounds = {word: int(count) for word, count in zip(self.words[::2], self.words[1::2])
+                  if word in ("--connections", "--states")}
+        return ModelServer(address[len("unix:"):], self.answers_questions, also, bounds.get("--connections"), room=bounds.get("--states"))
 
     words = ()
 
@@ -120,4 +131,4 @@ class OfOldModel(OfModel):
 
 
 __all__ = ["CLIENT", "HERE", "OfModel", "OfOldModel", "OfServe", "OfTardisd", "OverServers", "PATIENCE", "Process", "TARDIS", "TARDISD", "TOP", "free_port", "has_word", "is_built",
-           "keeping_history", "tardis"]
+           "keeping_history", "tardis", "words_of"]

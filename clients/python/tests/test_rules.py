@@ -5,7 +5,7 @@ import subprocess
 import unittest
 
 from rules_table import ABSENT, CROSSED, GONE, NO_TEXTS, REFUSED, ROWS, TEXTS, UNKNOWN
-from servers_here import TARDIS, TARDISD, OfModel, OfTardisd, OverServers, Process, is_built, keeping_history, tardis
+from servers_here import TARDIS, TARDISD, OfModel, OfTardisd, OverServers, Process, is_built, tardis, words_of
 
 from tardis.resolvers import Sides  # noqa: E402
 
@@ -191,7 +191,7 @@ class Joined(unittest.TestCase):
         folder = tempfile.mkdtemp()
         self.addCleanup(shutil.rmtree, folder)
         address = "unix:" + os.path.join(folder, "site")
-        server = Process([TARDISD, "--listen", address, "--rules", RULES, *keeping_history()])
+        server = Process(words_of(address, ["--rules", RULES]))
         self.addCleanup(server.stop)
         site = tardis.connect(address, 20)
         self.addCleanup(site.disconnect)

@@ -1,16 +1,16 @@
 -- The options behind the word of a command.
-use Rattle.std.specs.Prelude.{ℕ, Bool, true, false, List, [], ◌∷◌, Option, None, Some, codes, bytes_eq, filter, map}
+use Rattle.std.specs.Prelude.{ℕ, Bool, true, false, ◌||◌, List, [], ◌∷◌, Option, None, Some, codes, bytes_eq, filter, map}
 use Rattle.std.specs.List.{list_all, list_any}
 
 -- an option's name, and the word behind it that is its value
 abbrev pub Setting : Type 0
 Setting = List ℕ × Option (List ℕ)
 
--- the name of the option that has no value
+-- the names of the options that have no value
 abbrev pub is_flag : List ℕ → Bool
-is_flag name = bytes_eq name (codes "--tidy")
+is_flag name = bytes_eq name (codes "--tidy") || bytes_eq name (codes "--keep-history")
 
--- Words are options: `--tidy` is one by itself, and any other word is one with the word behind it.
+-- Words are options: `--tidy` and `--keep-history` are each one by itself, and any other word is one with the word behind it.
 abbrev pub settings : List (List ℕ) → List Setting
 settings [] = []
 settings (name ∷ []) = (name, None) ∷ []

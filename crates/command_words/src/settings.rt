@@ -3,7 +3,7 @@
 ghost use Rattle.std.specs.Prelude.{◌≡◌, ◌<◌, ◌++◌, ℕ, List, [], ◌∷◌, Option, Some, None, length, map, IfOk, filter_map, option_map, bytes_eq};
 ghost use Rattle.std.specs.List.{list_any};
 ghost use Rattle.std.specs.String.{string_bytes};
-ghost use Rattle.command_words.specs.Settings.{settings, values, are_only};
+ghost use Rattle.command_words.specs.Settings.{settings, values, are_only, is_flag};
 ghost use Rattle.command_words.specs.Given.{IsGiven};
 ghost use Rattle.command_words.specs.Splits.{IsSplit};
 
@@ -30,7 +30,8 @@ pub enum Given<'a> {
     Twice,
 }
 
-/// Splits off the first option: `--tidy` alone, or any other word with the one behind it. There is none only where there is no word.
+/// Splits off the first option: `--tidy` or `--keep-history` alone, or any other word with the one behind it. There is none only where
+/// there is no word.
 pub fn split_first(words: &[String]) -> Option<Split<'_>>
     ensures { IsSplit (map (λ w. string_bytes w) words.now) result }
 {
@@ -39,7 +40,7 @@ pub fn split_first(words: &[String]) -> Option<Split<'_>>
     };
     let name = first.as_str();
     match behind {
-        [value, rest @ ..] if name != "--tidy" => Some(Split {
+        [value, rest @ ..] if !is_flag(name) => Some(Split {
             name,
             value: Some(value.as_str()),
             rest,
@@ -50,6 +51,13 @@ pub fn split_first(words: &[String]) -> Option<Split<'_>>
             rest: behind,
         }),
     }
+}
+
+/// Whether the option of this name has no value.
+fn is_flag(name: &str) -> bool
+    ensures { result ≡ is_flag name.now }
+{
+    name == "--tidy" || name == "--keep-history"
 }
 
 /// How often the option of this name is given, and its value. The time is in proportion to how many words there are.
