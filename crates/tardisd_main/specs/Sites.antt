@@ -62,31 +62,35 @@ join_request patience rules = JOIN ∷ patience ∷ rules
 abbrev pub wait_of : (join_after every : ℕ) → ℕ
 wait_of join_after every = max (1000 * max join_after (2 * every)) 1
 
--- After each turn in which a reply was given that counts these are asked, and then two leaves are joined by rules; and again behind the
--- next turn where two were. Where leaves stay apart, they are asked again once 64 replies were given that count, or one and a second has
--- passed. Leaves that another site is to join wait for it once, or twice, by how near this site is to their join.
-abbrev pub joining_rule : List (List ℕ) → (rules : List ℕ) → (join_after every : ℕ) → UpkeepRule
-joining_rule requests rules join_after every = record {
+-- After each turn in which a reply was given that counts these are asked; and again behind the next turn where the last of them joined two
+-- leaves. Where leaves stay apart, they are asked again once 64 replies were given that count, or one and a second has passed. Leaves that
+-- another site is to join wait for it, and then the last request is asked with more patience: after one wait so, and after two so.
+abbrev pub joining_rule : (requests late : List (List ℕ)) → (join_after every : ℕ) → UpkeepRule
+joining_rule requests late join_after every = record {
   codes = counted_codes;
   after = 1;
   pays = 4294967295;
-  requests = requests ++ join_request 0 rules ∷ [];
+  requests = requests;
   full = JOIN ∷ JOINED ∷ [];
   idle = JOIN ∷ LEFT ∷ [];
   later = 64;
   held = JOIN ∷ FOR_OTHERS ∷ [];
   soon = 1000;
-  late = join_request 1 rules ∷ join_request 2 rules ∷ [];
+  late = late;
   wait = wait_of join_after every;
 }
+
+-- the requests to join after one wait and after two
+abbrev pub late_joins : (rules : List ℕ) → List (List ℕ)
+late_joins rules = join_request 1 rules ∷ join_request 2 rules ∷ []
 
 -- With rules two leaves are joined by them; where the site collects too the floor is raised before that, and up to 4,096 states are
 -- collected.
 abbrev pub upkeep_rule : (tidy : Bool) → (rules : Option (List ℕ)) → (join_after every : ℕ) → Option UpkeepRule
 upkeep_rule tidy None join_after every = Some (tidy_rule tidy)
-upkeep_rule false (Some rules) join_after every = Some (joining_rule watching rules join_after every)
+upkeep_rule false (Some rules) join_after every = Some (joining_rule (watching ++ join_request 0 rules ∷ []) (late_joins rules) join_after every)
 upkeep_rule true (Some rules) join_after every =
-    Some (joining_rule (watching ++ request_spelling RaiseAuto ∷ request_spelling (Tidy 4096) ∷ []) rules join_after every)
+    Some (joining_rule (watching ++ request_spelling RaiseAuto ∷ request_spelling (Tidy 4096) ∷ join_request 0 rules ∷ []) (late_joins rules) join_after every)
 
 -- with as many connections as are asked for; from the peers that are asked for, and as often as is asked
 abbrev pub scope_of : Daemon → Scope

@@ -164,13 +164,14 @@ fn serve_ruled<M: Settling, P: Ports>(
     let join = join_request(alloc, 0, rules)?;
     let second = join_request(alloc, 1, rules)?;
     let last = join_request(alloc, 2, rules)?;
-    let late: [&[u8]; 2] = [second.as_slice(), last.as_slice()];
     if plan.tidy {
         let requests: [&[u8]; 5] = [&ASK_OLDEST, &STAT, &RAISE_AUTO, &TIDY_MANY, join.as_slice()];
+        let late: [&[u8]; 2] = [second.as_slice(), last.as_slice()];
         let upkeep = join_upkeep(&requests, &late, plan.join_after, plan.every);
         serve(alloc, machine, ports, Some(upkeep), scope_of(plan))
     } else {
         let requests: [&[u8]; 3] = [&ASK_OLDEST, &STAT, join.as_slice()];
+        let late: [&[u8]; 2] = [second.as_slice(), last.as_slice()];
         let upkeep = join_upkeep(&requests, &late, plan.join_after, plan.every);
         serve(alloc, machine, ports, Some(upkeep), scope_of(plan))
     }
@@ -203,8 +204,7 @@ fn join_upkeep<'a>(
     join_after: u32,
     every: u32,
 ) -> Upkeep<'a>
-    ensures rule { (before : List (List ℕ)) (rules : List ℕ) → map (λ r. r.now) requests.entry.now ≡ before ++ join_request 0 rules ∷ []
-        → map (λ r. r.now) late.entry.now ≡ join_request 1 rules ∷ join_request 2 rules ∷ [] → rule_of result ≡ joining_rule before rules join_after every }
+    ensures rule { rule_of result ≡ joining_rule (map (λ r. r.now) requests.entry.now) (map (λ r. r.now) late.entry.now) join_after every }
     ensures often { (0 < (rule_of result).after) × (0 < (rule_of result).later) × (0 < (rule_of result).wait) }
 {
     Upkeep {
