@@ -275,7 +275,7 @@ fn scope_of(plan: &DaemonPlan<'_>) -> Scope
 
 /// The upkeep of a site without rules.
 fn upkeep_of(tidy: bool) -> Option<Upkeep<'static>>
-    ensures rule { option_map rule_of result ≡ upkeep_rule tidy None }
+    ensures rule { (join_after every : ℕ) → option_map rule_of result ≡ upkeep_rule tidy None join_after every }
     ensures often { IfSome (option_map rule_of result) (λ rule. (0 < rule.after) × (0 < rule.later) × (0 < rule.wait)) }
 {
     if tidy {
