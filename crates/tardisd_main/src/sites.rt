@@ -9,7 +9,7 @@ ghost use Rattle.hub.specs.Runs.{close, IsRun};
 ghost use Rattle.daemon_words.specs.Daemons.{daemon_of};
 ghost use Rattle.daemon_words.specs.Capacity.{IsCapacity};
 ghost use Rattle.command_words.specs.Places.{IsPlace};
-ghost use Rattle.tardisd_main.specs.Sites.{upkeep_rule, slow_rule, joining_rule, join_request, wait_of, scope_of, begin_life, ServesPlace};
+ghost use Rattle.tardisd_main.specs.Sites.{upkeep_rule, tidy_rule, slow_rule, joining_rule, join_request, wait_of, scope_of, begin_life, ServesPlace};
 
 use daemon_words::{DaemonPlan, MOST_CONNECTIONS};
 use hub::{End, Ports, SLOTS, Scope, Upkeep, serve};
@@ -275,7 +275,7 @@ fn scope_of(plan: &DaemonPlan<'_>) -> Scope
 
 /// The upkeep of a site without rules.
 fn upkeep_of(tidy: bool) -> Option<Upkeep<'static>>
-    ensures rule { (join_after every : ℕ) → option_map rule_of result ≡ upkeep_rule tidy None join_after every }
+    ensures rule { option_map rule_of result ≡ Some (tidy_rule tidy) }
     ensures often { IfSome (option_map rule_of result) (λ rule. (0 < rule.after) × (0 < rule.later) × (0 < rule.wait)) }
 {
     if tidy {
