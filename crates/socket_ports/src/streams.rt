@@ -1,6 +1,7 @@
 //! Connections over Unix sockets and TCP.
 
-ghost use Rattle.std.specs.Prelude.{◌≡◌, ◌∷◌, length, to_be_bytes, w32};
+ghost use Rattle.std.specs.Prelude.{◌≡◌, ◌∷◌, length};
+ghost use Rattle.std.specs.Int.{w32, to_be_bytes};
 ghost use Rattle.std.specs.Io.{ReadsAtMost, WritesAtMost};
 
 use crate::keepalives::keep_alive;
